@@ -38,6 +38,12 @@ def folded_multiply(values: int, multiplier: int, of: Lanes) -> int:
     return (product ^ product >> 64) & of.low
 
 
+def added_halves(values: int, multiplier: int, of: Lanes) -> int:
+    """The halves of each product of 128 bits, added."""
+    product = values * multiplier
+    return (product & of.low) + (product >> 64 & of.low) & of.low
+
+
 class Digest(NamedTuple):
     """A hash that is taken byte by byte: how it begins for a length, what a byte makes of it, and how it ends."""
 
@@ -54,12 +60,13 @@ POOL_NAME = Digest(
     step=lambda values, letters, of: folded_multiply(values ^ letters * 0x1_0101, FOLD_MULTIPLIER ^ 2, of),
     end=lambda values, of: values,
 )
-# The hash of the names of attributes (`name_digest` of `ad_tree`), of which one number is written.
+# The hash of the names of attributes (`name_digest` of `pool_text`, which a frame's table takes as it is). Small letters stand
+# for themselves, and the seven that are tried are one word.
 ATTRIBUTE_NAME = Digest(
     alphabet=string.ascii_lowercase,
     begin=lambda length: 0,
-    step=lambda values, letters, of: (values * NAME_MULTIPLIER & of.low) + letters & of.low,
-    end=lambda values, of: folded_multiply(values ^ of.ones * FOLD_BEGIN, FOLD_MULTIPLIER ^ 16, of),
+    step=lambda values, letters, of: values * 0x100 + letters,
+    end=lambda values, of: added_halves(values, NAME_MULTIPLIER, of),
 )
 
 

@@ -1,5 +1,6 @@
 -- How a builder changes with each instruction.
-use Rattle.std.proofs.Common.{◌≡◌, ℕ, ◌+◌, min, Bool, true, false, ◌&&◌, List, [], ◌∷◌, ◌++◌, length, map, slice_get, Some, Result, Ok, Err, IfOk, OnOk, refl, sym, subst, ap, ◌∙◌}
+use Rattle.std.proofs.Common.{◌≡◌, ℕ, ◌+◌, min, Bool, true, false, ◌&&◌, List, [], ◌∷◌, ◌++◌, length, map, slice_get, Some, Result, Ok, Err, IfOk, OnOk, refl}
+use Rattle.std.proofs.Common.{sym, subst, ap, ◌∙◌}
 use Rattle.ad_tree.specs.Draft.{draft_frames}
 use Rattle.ad_tree.specs.Frames.{Frame, IsAd, attributes_at, empty_frame, defined}
 use Rattle.ad_tree.specs.Inline.{Inline, inner, no_defs, frames, height, number, spelled, spelled_tree, ad_of, phrase_of, phrase_tree}
@@ -23,10 +24,12 @@ use Rattle.ad_builder.specs.declared.instruction.Infix.{Infix}
 use Rattle.ad_builder.specs.declared.instruction.Infix.TheVariants as infixes
 use Rattle.ad_builder.specs.declared.measure.Measure.{Measure}
 use Rattle.ad_builder.proofs.CountLemmas.{leaf-counted, one-counted, two-counted, joined-counted, element-counted, three-counted, open-counted}
-use Rattle.ad_builder.proofs.LaidLemmas.{last_tree-last, leaf-laid, one-laid, two-laid, three-laid, joined-laid, element-laid, open-laid, define-laid, define-recounted, close-laid, ad-finished, phrase-finished, phrase_tree-finished}
+use Rattle.ad_builder.proofs.LaidLemmas.{last_tree-last, leaf-laid, one-laid, two-laid, three-laid, joined-laid, element-laid, open-laid, define-laid}
+use Rattle.ad_builder.proofs.LaidLemmas.{define-recounted, close-laid, ad-finished, phrase-finished, phrase_tree-finished}
 use Rattle.ad_builder.proofs.MeasureLemmas.{taken}
 use Rattle.ad_builder.proofs.StackLemmas.{first-changed}
-use Rattle.ad_builder.proofs.SteadyLemmas.{IsWhole, leaf-steady, empty-steady, one-steady, two-steady, joined-steady, element-steady, three-steady, definition-steady, ad-steady, phrase-steady}
+use Rattle.ad_builder.proofs.SteadyLemmas.{IsWhole, leaf-steady, empty-steady, one-steady, two-steady, joined-steady, element-steady, three-steady}
+use Rattle.ad_builder.proofs.SteadyLemmas.{definition-steady, ad-steady, phrase-steady}
 
 -- what an Ok tells, told on
 pub on_ok : {A E : Type 0} (r : Result A E) {P Q : Type 0} → (P → Q) → OnOk r P → OnOk r Q
@@ -103,12 +106,14 @@ module _ (is_ad : Bool) (st : List Inline) where
             (subst (λ v. Laid is_ad (value v ∷ map slot between.operands) between.parent now (draft_frames between.draft)) (sym is)
             (one-laid is_ad between.parent (draft_frames between.draft) label (map slot between.operands) t st (taken-laid is_ad st [] first h.laid)));
         measured = put-measured (over_one label (top st)) (below st) put (measured (top st) part.0) part.1;
-        counted = recounted (put.frames ∙ sym first.frames) (put.definitions ∙ sym first.definitions) (one-counted old.frames old.definitions st h.counted label);
+        counted =
+            recounted (put.frames ∙ sym first.frames) (put.definitions ∙ sym first.definitions) (one-counted old.frames old.definitions st h.counted label);
         steady = λ is_steady. one-steady st (h.steady (first.steady ∙ sym put.steady ∙ is_steady)) label;
       }
 
   -- a tree that is made of the last two
-  module _ (x : Inline) {t u w : Tree} {m n r : Measure} {old then between new : Builder} (second : HasPut (value u) n then old) (first : HasPut (value t) m between then)
+  module _ (x : Inline) {t u w : Tree} {m n r : Measure} {old then between new : Builder} (second : HasPut (value u) n then old)
+      (first : HasPut (value t) m between then)
       (put : HasPut (value w) r between new) (h : Holds is_ad old st) where
     two-put : Laid is_ad (value w ∷ map slot between.operands) between.parent (x ∷ below (below st)) (draft_frames between.draft)
         → (IsMeasure m (top (below st)) → IsMeasure n (top st) → IsMeasure r x) → AreCounted old.frames old.definitions (x ∷ below (below st))
@@ -126,7 +131,8 @@ module _ (is_ad : Bool) (st : List Inline) where
     parts-laid : Laid is_ad (value u ∷ value t ∷ map slot between.operands) between.parent st (draft_frames between.draft)
     parts-laid = taken-laid is_ad st (value u ∷ []) first (taken-laid is_ad st [] second h.laid)
 
-  pub two-carried : (label : Label) {t u v : Tree} {m n r : Measure} {old then between new : Builder} → HasPut (value u) n then old → HasPut (value t) m between then
+  pub two-carried : (label : Label) {t u v : Tree} {m n r : Measure} {old then between new : Builder} → HasPut (value u) n then old
+      → HasPut (value t) m between then
       → v ≡ node label (two t u) → ((x y : Inline) → IsMeasure m x → IsMeasure n y → IsMeasure r (over_two label x y)) → HasPut (value v) r between new
       → Holds is_ad old st → Holds is_ad new (over_two label (top (below st)) (top st) ∷ below (below st))
   two-carried label {t} {u} {v} {m} {n} {r} {old} {then} {between} second first is measured put h =
@@ -137,7 +143,8 @@ module _ (is_ad : Bool) (st : List Inline) where
       (measured (top (below st)) (top st)) (two-counted old.frames old.definitions st h.counted label)
       (λ steady. two-steady st steady label)
 
-  pub infix-carried : (op : Infix) {t u v : Tree} {m n r : Measure} {old then between new : Builder} → HasPut (value u) n then old → HasPut (value t) m between then
+  pub infix-carried : (op : Infix) {t u v : Tree} {m n r : Measure} {old then between new : Builder} → HasPut (value u) n then old
+      → HasPut (value t) m between then
       → v ≡ joined_tree op t u → ((x y : Inline) → IsMeasure m x → IsMeasure n y → IsMeasure r (joined op x y)) → HasPut (value v) r between new
       → Holds is_ad old st → Holds is_ad new (joined op (top (below st)) (top st) ∷ below (below st))
   infix-carried op {t} {u} {v} {m} {n} {r} {old} {then} {between} second first is measured put h =
@@ -185,8 +192,10 @@ module _ (is_ad : Bool) (st : List Inline) where
       } in
       element-carried second taken_first trees.4 taken.measured put_last h
 
-  pub three-carried : {t u v w : Tree} {k m n r : Measure} {old then later between new : Builder} → HasPut (value v) n then old → HasPut (value u) m later then → HasPut (value t) k between later
-      → w ≡ node choice (three t u v) → ((x y z : Inline) → IsMeasure k x → IsMeasure m y → IsMeasure n z → IsMeasure r (over_three choice x y z)) → HasPut (value w) r between new
+  pub three-carried : {t u v w : Tree} {k m n r : Measure} {old then later between new : Builder} → HasPut (value v) n then old → HasPut (value u) m later then
+      → HasPut (value t) k between later
+      → w ≡ node choice (three t u v) → ((x y z : Inline) → IsMeasure k x → IsMeasure m y → IsMeasure n z → IsMeasure r (over_three choice x y z))
+      → HasPut (value w) r between new
       → Holds is_ad old st → Holds is_ad new (over_three choice (top (below (below st))) (top (below st)) (top st) ∷ below (below (below st)))
   three-carried {t} {u} {v} {w} {k} {m} {n} {r} {old} {then} {later} {between} third second first is measured put h =
       let x : Inline = over_three choice (top (below (below st))) (top (below st)) (top st) in
@@ -200,12 +209,15 @@ module _ (is_ad : Bool) (st : List Inline) where
             (three-laid is_ad between.parent (draft_frames between.draft) choice (map slot between.operands) t u v st
             (taken-laid is_ad st (value v ∷ value u ∷ []) first (taken-laid is_ad st (value v ∷ []) second (taken-laid is_ad st [] third h.laid)))));
         measured = put-measured x (below (below (below st))) put (measured (top (below (below st))) (top (below st)) (top st) left.0 middle.0 right.0) left.1;
-        counted = recounted (put.frames ∙ sym first.frames ∙ sym second.frames ∙ sym third.frames) (put.definitions ∙ sym first.definitions ∙ sym second.definitions ∙ sym third.definitions)
+        counted =
+            recounted (put.frames ∙ sym first.frames ∙ sym second.frames ∙ sym third.frames)
+            (put.definitions ∙ sym first.definitions ∙ sym second.definitions ∙ sym third.definitions)
             (three-counted old.frames old.definitions st h.counted);
         steady = λ is_steady. three-steady st (h.steady (third.steady ∙ second.steady ∙ first.steady ∙ sym put.steady ∙ is_steady));
       }
 
-  pub open-carried : (old : Builder) {new : Builder} (m : Measure) (n : ℕ) → n ≡ length (draft_frames old.draft) → draft_frames new.draft ≡ draft_frames old.draft ++ empty_frame old.parent ∷ []
+  pub open-carried : (old : Builder) {new : Builder} (m : Measure) (n : ℕ) → n ≡ length (draft_frames old.draft)
+      → draft_frames new.draft ≡ draft_frames old.draft ++ empty_frame old.parent ∷ []
       → new.operands ≡ operands.Open m n old.parent ∷ old.operands → new.parent ≡ n → IsMeasure m (inner no_defs)
       → new.frames ≡ min (old.frames + 1) counting_limit → new.definitions ≡ old.definitions
       → new.is_steady ≡ old.is_steady → Holds is_ad old st → Holds is_ad new (inner no_defs ∷ st)
@@ -220,7 +232,8 @@ module _ (is_ad : Bool) (st : List Inline) where
         steady = λ is_steady. (empty-steady, h.steady (sym same ∙ is_steady));
       }
 
-  pub define-carried : (old between : Builder) {new : Builder} (l m r : Measure) (n outer : ℕ) (rest : List Operand) (name : List ℕ) {t : Tree} → HasPut (value t) m between old
+  pub define-carried : (old between : Builder) {new : Builder} (l m r : Measure) (n outer : ℕ) (rest : List Operand) (name : List ℕ) {t : Tree}
+      → HasPut (value t) m between old
       → between.operands ≡ operands.Open l n outer ∷ rest → draft_frames new.draft ≡ defined (draft_frames between.draft) between.parent name t
       → new.operands ≡ operands.Open r n outer ∷ rest → new.parent ≡ between.parent
       → ((x y : Inline) → IsMeasure l x → IsMeasure m y → IsMeasure r (with_definition x name y))
@@ -240,15 +253,18 @@ module _ (is_ad : Bool) (st : List Inline) where
             (define-laid is_ad between.parent (draft_frames between.draft) (map slot rest) n outer t name st is before));
         measured = subst (λ os. AreMeasures (map measure_of os) now) (sym more) (measured (top (below st)) (top st) left.0 right.0, left.1);
         counted = define-recounted is_ad between.parent (draft_frames between.draft) (map slot rest) n outer t name st before
-            old.frames old.definitions new.frames new.definitions (frames ∙ sym first.frames) (defs ∙ ap (λ k. min (k + 1) counting_limit) (sym first.definitions)) h.counted;
+            old.frames old.definitions new.frames new.definitions (frames ∙ sym first.frames)
+            (defs ∙ ap (λ k. min (k + 1) counting_limit) (sym first.definitions)) h.counted;
         steady = λ is_steady.
             let was : (between.is_steady && moves_none) ≡ true = sym both ∙ is_steady in
             definition-steady is_ad between.parent (draft_frames between.draft) (map slot rest) n outer t name (moves (both_right _ _ was)) st before
             (h.steady (first.steady ∙ both_left _ _ was));
       }
 
-  pub close-carried : (old : Builder) (n outer : ℕ) (os : List Operand) {m : Measure} {t : Tree} {between new : Builder} → old.operands ≡ operands.Open m n outer ∷ os → HasPut (value t) m between new
-      → between.operands ≡ os → between.parent ≡ outer → draft_frames between.draft ≡ draft_frames old.draft → between.frames ≡ old.frames → between.definitions ≡ old.definitions → t ≡ frame n
+  pub close-carried : (old : Builder) (n outer : ℕ) (os : List Operand) {m : Measure} {t : Tree} {between new : Builder}
+      → old.operands ≡ operands.Open m n outer ∷ os → HasPut (value t) m between new
+      → between.operands ≡ os → between.parent ≡ outer → draft_frames between.draft ≡ draft_frames old.draft → between.frames ≡ old.frames
+      → between.definitions ≡ old.definitions → t ≡ frame n
       → between.is_steady ≡ old.is_steady → Holds is_ad old st → Holds is_ad new st
   close-carried old n outer os {m} {t} {between} {new} pop put same_operands at same frames defs is steady h =
       let all : operands.Open m n outer ∷ between.operands ≡ old.operands = ap (λ l. operands.Open m n outer ∷ l) same_operands ∙ sym pop in
@@ -265,7 +281,8 @@ module _ (is_ad : Bool) (st : List Inline) where
       }
 
 -- a leaf that was added at once
-pub leaf-added : (is_ad : Bool) (st : List Inline) (label : Label) (m : Measure) (e : Expr) {old new : Builder} → tree e ≡ node label none → IsMeasure m (leaf label)
+pub leaf-added : (is_ad : Bool) (st : List Inline) (label : Label) (m : Measure) (e : Expr) {old new : Builder} → tree e ≡ node label none
+    → IsMeasure m (leaf label)
     → HasTaken (tree e) m old new → Holds is_ad old st → Holds is_ad new (with_element (top st) (leaf label) ∷ below st)
 leaf-added is_ad st label m e {old} is measured taken h =
     let put : HasPut (value (tree e)) m old (record old { operands = operands.Value m e ∷ old.operands }) = record {
@@ -289,7 +306,8 @@ pub any-longer : (ts vs : List Tree) {t : Tree} (u : Tree) → vs ≡ ts ++ u �
 any-longer ts vs u more is =
     ap (λ us. node any (pack us)) more ∙ ap (node any) (pack-push ts u ∙ sym (last_tree-last (pack ts) u)) ∙ ap (λ w. joined_tree infixes.Or w u) (sym is)
 
-pub element-taken : (label : Label) (ts vs : List Tree) {t w : Tree} (u : Tree) → vs ≡ ts ++ u ∷ [] → t ≡ node label (pack ts) → w ≡ node label (pack vs) → TakesElement t u w
+pub element-taken : (label : Label) (ts vs : List Tree) {t w : Tree} (u : Tree) → vs ≡ ts ++ u ∷ [] → t ≡ node label (pack ts) → w ≡ node label (pack vs)
+    → TakesElement t u w
 element-taken label ts vs {t} {w} u more is made =
     subst (λ v. TakesElement v u w) (sym is) (made ∙ ap (λ us. node label (pack us)) more ∙ ap (node label) (pack-push ts u ∙ sym (last_tree-last (pack ts) u)))
 
@@ -304,7 +322,8 @@ ad-held b m n outer st only h is =
 pub ad-made : (b : Builder) (m : Measure) (n outer : ℕ) (st : List Inline) → b.operands ≡ operands.Open m n outer ∷ [] → Holds true b st → b.is_steady ≡ true
     → (draft_frames b.draft ≡ ad_of (top st)) × IsAd (draft_frames b.draft)
 ad-made b m n outer st only h is_steady =
-    ad-steady n outer b.parent (draft_frames b.draft) st (subst (λ os. Laid true (map slot os) b.parent st (draft_frames b.draft)) only h.laid) (h.steady is_steady)
+    ad-steady n outer b.parent (draft_frames b.draft) st (subst (λ os. Laid true (map slot os) b.parent st (draft_frames b.draft)) only h.laid)
+    (h.steady is_steady)
 
 module _ {t : Tree} (b : Builder) (st : List Inline) (only : map slot b.operands ≡ value t ∷ []) (h : Holds false b st) where
   alone : Laid false (value t ∷ []) b.parent st (draft_frames b.draft)

@@ -1,6 +1,7 @@
 -- How many ad literals and definitions the trees of a stack have after each instruction.
 use Rattle.std.proofs.Common.{◌≡◌, ℕ, suc, ◌+◌, min, List, [], ◌∷◌, refl, arith}
-use Rattle.ad_tree.specs.Inline.{Inline, Inlines, shape, inner, end, next, Defs, no_defs, def, count, count_all, count_defs, definitions, definitions_all, definitions_in}
+use Rattle.ad_tree.specs.Inline.{Inline, Inlines, shape, inner, end, next, Defs, no_defs, def, count, count_all, count_defs, definitions, definitions_all}
+use Rattle.ad_tree.specs.Inline.{definitions_in}
 use Rattle.ad_tree.specs.Tree.{Label, all, any, choice}
 use Rattle.ad_builder.specs.Counts.{counting_limit, count_of, definitions_of, AreCounted}
 use Rattle.ad_builder.specs.Machine.{top, below, defined_last, with_element}
@@ -99,7 +100,8 @@ module _ (frames defs : ℕ) (st : List Inline) (h : AreCounted frames defs st) 
   open-counted more is = record { frames = omega (arith, h.frames, is); definitions = omega (arith, h.definitions) }
 
 -- a definition more in the ad literal below the last tree
-pub define-counted : (frames defs now more : ℕ) (x : Inline) (ds : Defs) (text : List ℕ) (st : List Inline) → now ≡ frames → more ≡ min (defs + 1) counting_limit
+pub define-counted : (frames defs now more : ℕ) (x : Inline) (ds : Defs) (text : List ℕ) (st : List Inline) → now ≡ frames
+    → more ≡ min (defs + 1) counting_limit
     → AreCounted frames defs (x ∷ inner ds ∷ st) → AreCounted now more (inner (defined_last ds text x) ∷ st)
 define-counted frames defs now more x ds text st same is h = record {
   frames = omega (arith, same, h.frames, count_defs-last ds text x);

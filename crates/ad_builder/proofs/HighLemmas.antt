@@ -68,13 +68,15 @@ pub step-high : (i : Instruction) (st : List Inline) → IsHigh st → IsHigh (s
 step-high (instructions.Literal lit) st h = inr h
 step-high (instructions.Name scope text) st h = inr h
 step-high (instructions.Unary op) st h = one (over_one (unary op) (top st)) st (omega arith) h
-step-high (instructions.Infix op) st h = two (joined op (top (below st)) (top st)) st (joined-right op (top (below st)) (top st)) (joined-left op (top (below st)) (top st)) h
+step-high (instructions.Infix op) st h =
+    two (joined op (top (below st)) (top st)) st (joined-right op (top (below st)) (top st)) (joined-left op (top (below st)) (top st)) h
 step-high instructions.Choice st h = three (over_three choice (top (below (below st))) (top (below st)) (top st)) st (omega arith) (omega arith) (omega arith) h
 step-high (instructions.Select text) st h = one (over_one (select text) (top st)) st (omega arith) h
 step-high instructions.Subscript st h = two (over_two subscript (top (below st)) (top st)) st (omega arith) (omega arith) h
 step-high (instructions.List room) st h = inr h
 step-high (instructions.Call text room) st h = inr h
-step-high instructions.Element st h = two (with_element (top (below st)) (top st)) st (element-right (top (below st)) (top st)) (element-left (top (below st)) (top st)) h
+step-high instructions.Element st h =
+    two (with_element (top (below st)) (top st)) st (element-right (top (below st)) (top st)) (element-left (top (below st)) (top st)) h
 step-high instructions.Ad st h = inr h
 step-high (instructions.Define text) st h =
     two (with_definition (top (below st)) text (top st)) st (definition-right (top (below st)) text (top st)) (definition-left (top (below st)) text (top st)) h

@@ -1,7 +1,8 @@
 -- How the operands of the builder change with each instruction.
 use Rattle.std.proofs.Common.{◌≡◌, ℕ, ◌+◌, min, Bool, true, false, List, [], ◌∷◌, ◌++◌, length, map, refl, sym, subst, ap, ◌∙◌}
 use Rattle.ad_tree.specs.Frames.{Frame, empty_frame, defined, settled_frame}
-use Rattle.ad_tree.specs.Inline.{Inline, Inlines, shape, inner, end, next, Defs, no_defs, def, number, number_all, frames, spelled, spelled_tree, ad_of, phrase_of, phrase_tree}
+use Rattle.ad_tree.specs.Inline.{Inline, Inlines, shape, inner, end, next, Defs, no_defs, def, number, number_all, frames, spelled, spelled_tree, ad_of}
+use Rattle.ad_tree.specs.Inline.{phrase_of, phrase_tree}
 use Rattle.ad_tree.specs.Placed.{IsPlaced, AreAllPlaced, HasDefined}
 use Rattle.ad_tree.specs.Tree.{Label, Tree, Trees, node, frame, none, more, one, two, three, binary, all, any}
 use Rattle.ad_tree.proofs.InlineLemmas.{next_last, def_last, more_last}
@@ -34,7 +35,8 @@ defined_last-last (def other y ds) text x = ap (def other y) (defined_last-last 
 
 module _ {p : ℕ} where
   one-more : (label : Label) (xs : Inlines) {y : Inline} {ts : Trees} {u : Tree} {before between after : List Frame}
-      → AreAllPlaced p xs ts before between → IsPlaced p y u between after → IsPlaced p (shape label (followed_by xs y)) (node label (last_tree ts u)) before after
+      → AreAllPlaced p xs ts before between → IsPlaced p y u between after
+      → IsPlaced p (shape label (followed_by xs y)) (node label (last_tree ts u)) before after
   one-more label xs {y} {ts} {u} {before} {between} {after} h k =
       subst (λ is. IsPlaced p (shape label is) (node label (last_tree ts u)) before after) (sym (followed_by-last xs y))
       (subst (λ us. IsPlaced p (shape label (next_last xs y)) (node label us) before after) (sym (last_tree-last ts u)) (node-placed label (last-placed h k)))
@@ -154,7 +156,8 @@ module _ (is_ad : Bool) (p : ℕ) (fs : List Frame) where
 -- ---- the end
 
 -- the ad of the root that is open
-pub ad-finished : (n outer p : ℕ) (fs : List Frame) (st : List Inline) {result : List Frame} → Laid true (open_ad n outer ∷ []) p st fs → result ≡ frames 0 0 (spelled fs) → result ≡ ad_of (top st)
+pub ad-finished : (n outer p : ℕ) (fs : List Frame) (st : List Inline) {result : List Frame} → Laid true (open_ad n outer ∷ []) p st fs
+    → result ≡ frames 0 0 (spelled fs) → result ≡ ad_of (top st)
 ad-finished n outer p fs [] h r = absurd h
 ad-finished n outer p fs (shape label xs ∷ st) h r = absurd h
 ad-finished n outer p fs (inner ds ∷ x ∷ st) h r = absurd h.1
@@ -173,12 +176,14 @@ module _ (t : Tree) (p : ℕ) (fs : List Frame) where
   settled-expression : (x : Inline) → Laid false (value t ∷ []) p (x ∷ []) fs → fs ≡ empty_frame 0 ∷ map settled_frame (frames 0 1 x)
   settled-expression x h = (alone x h).opened
 
-  pub phrase-finished : (st : List Inline) {result : List Frame} → Laid false (value t ∷ []) p st fs → result ≡ empty_frame 0 ∷ frames 0 1 (spelled_tree fs t) → result ≡ phrase_of (top st)
+  pub phrase-finished : (st : List Inline) {result : List Frame} → Laid false (value t ∷ []) p st fs → result ≡ empty_frame 0 ∷ frames 0 1 (spelled_tree fs t)
+      → result ≡ phrase_of (top st)
   phrase-finished [] h r = absurd h
   phrase-finished (x ∷ y ∷ st) h r = absurd h.1
   phrase-finished (x ∷ []) h r = r ∙ ap (λ u. empty_frame 0 ∷ frames 0 1 (spelled_tree fs u)) (numbered x h) ∙ (phrase_of-finished x (settled-expression x h)).0
 
-  pub phrase_tree-finished : (st : List Inline) {result : Tree} → Laid false (value t ∷ []) p st fs → result ≡ number 1 (spelled_tree fs t) → result ≡ phrase_tree (top st)
+  pub phrase_tree-finished : (st : List Inline) {result : Tree} → Laid false (value t ∷ []) p st fs → result ≡ number 1 (spelled_tree fs t)
+      → result ≡ phrase_tree (top st)
   phrase_tree-finished [] h r = absurd h
   phrase_tree-finished (x ∷ y ∷ st) h r = absurd h.1
   phrase_tree-finished (x ∷ []) h r = r ∙ ap (λ u. number 1 (spelled_tree fs u)) (numbered x h) ∙ (phrase_of-finished x (settled-expression x h)).1

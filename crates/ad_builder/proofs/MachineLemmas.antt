@@ -41,7 +41,8 @@ went-on is_ad new i before n low held is_height =
     ] in
     by (nat_lt 64 n) refl
 
-module _ (is_ad : Bool) {is_high : Bool} (old new : Builder) (is js : List Instruction) (i : Instruction) (more : js ≡ is ++ i ∷ []) (h : IsCarried is_ad is_high old (stack is)) where
+module _ (is_ad : Bool) {is_high : Bool} (old new : Builder) (is js : List Instruction) (i : Instruction) (more : js ≡ is ++ i ∷ [])
+    (h : IsCarried is_ad is_high old (stack is)) where
   pub stays-high : is_high ≡ true → IsCarried is_ad is_high new (stack js)
   stays-high high =
       subst (λ b. IsCarried is_ad b new (stack js)) (sym high)
@@ -52,7 +53,8 @@ module _ (is_ad : Bool) {is_high : Bool} (old new : Builder) (is js : List Instr
   goes-on n low carried tall =
       let was = subst (λ b. IsCarried is_ad b old (stack is)) low h in
       let held : Holds is_ad new (step i (stack is)) = carried was.0 in
-      subst (λ s. IsCarried is_ad (nat_lt 64 n) new s) (sym (stack-next is js i more)) (went-on is_ad new i (stack is) n was.1 held (tall (step i (stack is)) held))
+      subst (λ s. IsCarried is_ad (nat_lt 64 n) new s) (sym (stack-next is js i more))
+      (went-on is_ad new i (stack is) n was.1 held (tall (step i (stack is)) held))
 
 -- ---- the same for a leaf and `Element` behind it
 
@@ -79,15 +81,18 @@ module _ (is js ks : List Instruction) (i : Instruction) (first : js ≡ is ++ i
     pub element-stays-high : is_high ≡ true → IsCarried is_ad is_high new (stack ks)
     element-stays-high high =
         subst (λ b. IsCarried is_ad b new (stack ks)) (sym high)
-        (subst IsHigh (sym stack-element) (step-high instructions.Element (step i (stack is)) (step-high i (stack is) (subst (λ b. IsCarried is_ad b old (stack is)) high h))))
+        (subst IsHigh (sym stack-element) (step-high instructions.Element (step i (stack is))
+        (step-high i (stack is) (subst (λ b. IsCarried is_ad b old (stack is)) high h))))
 
-    pub element-goes-on : (n : ℕ) → is_leaf i ≡ true → is_high ≡ false → (Holds is_ad old (stack is) → Holds is_ad new (step instructions.Element (step i (stack is))))
+    pub element-goes-on : (n : ℕ) → is_leaf i ≡ true → is_high ≡ false
+        → (Holds is_ad old (stack is) → Holds is_ad new (step instructions.Element (step i (stack is))))
         → ((st : List Inline) → Holds is_ad new st → n ≡ min tallest_measured (height (top st))) → IsCarried is_ad (nat_lt 64 n) new (stack ks)
     element-goes-on n leaf low carried tall =
         let was = subst (λ b. IsCarried is_ad b old (stack is)) low h in
         let held : Holds is_ad new (step instructions.Element (step i (stack is))) = carried was.0 in
         subst (λ s. IsCarried is_ad (nat_lt 64 n) new s) (sym stack-element)
-        (went-on is_ad new instructions.Element (step i (stack is)) n (leaf-low i (stack is) leaf was.1) held (tall (step instructions.Element (step i (stack is))) held))
+        (went-on is_ad new instructions.Element (step i (stack is)) n (leaf-low i (stack is) leaf was.1) held
+        (tall (step instructions.Element (step i (stack is))) held))
 
 -- a machine that builds has no tree that is too high
 pub builds-low : (is_ad : Bool) {is_high : Bool} (b : Builder) (st : List Inline) → IsCarried is_ad is_high b st → is_high ≡ false → IsHigh st → ⊥

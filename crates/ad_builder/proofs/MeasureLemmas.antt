@@ -56,10 +56,12 @@ element-refused m r (inner ds) y a same is = is
 pub definition-measured : (m n r : Measure) (text : List ℕ) (x y : Inline) → IsMeasure m x → IsMeasure n y → m.kind ≡ Ad
     → r.height ≡ max m.height (min (n.height + 1) tallest_measured) → r.kind ≡ m.kind → IsMeasure r (with_definition x text y)
 definition-measured m n r text (shape label xs) y a b same h k = absurd (no-ad label (sym a.kind ∙ same))
-definition-measured m n r text (inner ds) y a b same h k = record { height = omega (arith, highest_def-last ds text y, h, a.height, b.height); kind = k ∙ a.kind }
+definition-measured m n r text (inner ds) y a b same h k =
+    record { height = omega (arith, highest_def-last ds text y, h, a.height, b.height); kind = k ∙ a.kind }
 
 -- and any other tree makes one with a definition
-pub definition-refused : (m r : Measure) (text : List ℕ) (x y : Inline) → IsMeasure m x → (m.kind ≡ Ad → ⊥) → IsMeasure r (over_two list x y) → IsMeasure r (with_definition x text y)
+pub definition-refused : (m r : Measure) (text : List ℕ) (x y : Inline) → IsMeasure m x → (m.kind ≡ Ad → ⊥) → IsMeasure r (over_two list x y)
+    → IsMeasure r (with_definition x text y)
 definition-refused m r text (shape label xs) y a other is = is
 definition-refused m r text (inner ds) y a other is = absurd (other a.kind)
 

@@ -1,5 +1,6 @@
 -- The last item of a list as the first of the list turned round.
-use Rattle.std.proofs.Common.{◌≡◌, ℕ, ◌-◌, ◌<◌, List, [], ◌∷◌, ◌++◌, length, reverse, slice_set, slice_get, slice_index_or, Option, Some, None, IfSome, IsSome, MutBor, refl, sym, ap, ◌∙◌, arith}
+use Rattle.std.proofs.Common.{◌≡◌, ℕ, ◌-◌, ◌<◌, List, [], ◌∷◌, ◌++◌, length, reverse, slice_set, slice_get, slice_index_or, Option, Some, None, IfSome, IsSome}
+use Rattle.std.proofs.Common.{MutBor, refl, sym, ap, ◌∙◌, arith}
 use Rattle.std.proofs.lemmas.List.{reverse-append, reverse-reverse, length-reverse, get_or-reverse}
 use Rattle.std.proofs.Math.Seq.{set-append_seam}
 

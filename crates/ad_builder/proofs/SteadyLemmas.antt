@@ -3,7 +3,8 @@ use Rattle.std.proofs.Common.{◌≡◌, ℕ, suc, ◌+◌, Bool, true, false, L
 use Rattle.std.proofs.lemmas.List.{append-nil, length-map, map-append}
 use Rattle.pool_text.specs.declared.language.Lit.TheVariants.{Undefined}
 use Rattle.ad_tree.specs.Frames.{Frame, IsAd, attributes_at, attributes_in, empty_frame, put_all, put_attribute, settled_frame}
-use Rattle.ad_tree.specs.Inline.{Inline, Inlines, shape, inner, end, next, Defs, no_defs, def, count, count_all, count_defs, number, number_all, attributes_from, frames, frames_all, frames_in, put, settled, settled_all, settled_defs, ad_of, phrase_of, phrase_tree}
+use Rattle.ad_tree.specs.Inline.{Inline, Inlines, shape, inner, end, next, Defs, no_defs, def, count, count_all, count_defs, number, number_all}
+use Rattle.ad_tree.specs.Inline.{attributes_from, frames, frames_all, frames_in, put, settled, settled_all, settled_defs, ad_of, phrase_of, phrase_tree}
 use Rattle.ad_tree.specs.Names.{same_name}
 use Rattle.ad_tree.specs.Phrases.{IsPhrase}
 use Rattle.ad_tree.specs.Placed.{IsPlaced, HasDefined}
@@ -171,7 +172,8 @@ module _ (name : List ℕ) (y : Inline) where
   regroup : (a b c : ℕ) → (a + b) + c ≡ a + (b + c)
   regroup a b c = omega arith
 
-  attributes-put : (c : ℕ) (ds : Defs) → KeepsPlaces name y ds → attributes_from c (put name y ds) ≡ put_attribute name (number (c + count_defs ds) y) (attributes_from c ds)
+  attributes-put : (c : ℕ) (ds : Defs) → KeepsPlaces name y ds
+      → attributes_from c (put name y ds) ≡ put_attribute name (number (c + count_defs ds) y) (attributes_from c ds)
   attributes-put c no_defs keeps = ap (λ n. (name, number n y) ∷ []) at_start
     where
       at_start : c ≡ c + 0
@@ -274,7 +276,8 @@ define-steady ds name x c e h k moves = record { framed = framed; numbered = λ 
 -- ---- operands
 
 -- the attributes of a frame behind others
-attributes-behind : (before rest : List Frame) (f : Frame) {fs : List Frame} {p : ℕ} → fs ≡ before ++ f ∷ rest → p ≡ length before → attributes_at fs p ≡ f.attributes
+attributes-behind : (before rest : List Frame) (f : Frame) {fs : List Frame} {p : ℕ} → fs ≡ before ++ f ∷ rest → p ≡ length before
+    → attributes_at fs p ≡ f.attributes
 attributes-behind before rest f {fs} {p} is at =
     ap (λ gs. attributes_at gs p) is ∙ ap (attributes_at (before ++ f ∷ rest)) at ∙ ap attributes_in (slice_get-behind before rest f)
 
@@ -292,7 +295,8 @@ defined-steady {p} {outer} ds name x t {before} {between} {fs} at h k moves here
     (subst (λ u. MovesNone name u (attributes_from (suc b) (settled_defs no_defs ds))) (k.copied ∙ there.numbered (length between))
     (subst (MovesNone name t) (attributes-behind before (rest ++ new) own is at ∙ attributes-steady ds b here) moves))
 
-module _ (is_ad : Bool) (p : ℕ) (fs : List Frame) (ss : List Slot) (n outer : ℕ) (t : Tree) (name : List ℕ) (moves : MovesNone name t (attributes_at fs p)) where
+module _ (is_ad : Bool) (p : ℕ) (fs : List Frame) (ss : List Slot) (n outer : ℕ) (t : Tree) (name : List ℕ)
+    (moves : MovesNone name t (attributes_at fs p)) where
   pub definition-steady : (st : List Inline) → Laid is_ad (value t ∷ open_ad n outer ∷ ss) p st fs → AreSteady st
       → AreSteady (with_definition (top (below st)) name (top st) ∷ below (below st))
   definition-steady [] h steady = absurd h

@@ -1,5 +1,6 @@
 -- The places that are listed of one of a request's tests, where no look-up leaves fewer.
-use Rattle.std.proofs.Common.{◌≡◌, ◌<◌, ◌≤◌, ℕ, min, List, [], ◌∷◌, length, All, Bor, IfSome, Option, None, Some, ap, sym, ◌∙◌, subst, arith}
+use Rattle.std.proofs.Common.{◌≡◌, ◌<◌, ◌≤◌, ℕ, min, List, [], ◌∷◌, length, All, Bor, IfSome, Option, None, Some, ap, sym, ◌∙◌}
+use Rattle.std.proofs.Common.{subst, arith}
 use Rattle.std.specs.List.{range_with_len}
 use Rattle.std.specs.Option.{option_map_or}
 use Rattle.std.proofs.lemmas.List.Elements.{All-cons, All-nil}
@@ -16,7 +17,8 @@ use Rattle.ad_candidates.proofs.PlaceLemmas.{of-all, of-one}
 pub each-leaves : (n most : ℕ) (ads : List Advert) (tests : List Test) → n ≤ least_within most ads tests → All (λ test. n ≤ left_by ads test) tests
 each-leaves n most ads [] low = All-nil (λ test. n ≤ left_by ads test)
 each-leaves n most ads (t ∷ tests) low =
-    All-cons (λ test. n ≤ left_by ads test) t tests (omega (arith, low, within-le (min most (left_by ads t)) ads tests)) (each-leaves n (min most (left_by ads t)) ads tests low)
+    All-cons (λ test. n ≤ left_by ads test) t tests (omega (arith, low, within-le (min most (left_by ads t)) ads tests))
+    (each-leaves n (min most (left_by ads t)) ads tests low)
 
 abbrev pub many_listed : Option (Bor (List ℕ)) → ℕ → ℕ
 many_listed listed count = option_map_or (λ places. length places.now) listed count
@@ -26,8 +28,10 @@ module _ (ads : List Advert) (tests : List Test) (count : ℕ) (whole : count �
   many-within None few = omega (arith, whole)
   many-within (Some places) few = omega (arith, few, whole)
 
-  pub of-listed : (listed : Option (Bor (List ℕ))) (places : List ℕ) → IfSome listed (λ places. length places.now < count) → IfSome listed (λ places. ArePlacesOfOne ads tests places.now)
-      → many_listed listed count ≡ least_within (many_listed listed count) ads tests → places ≡ option_map_or (λ places. places.now) listed (range_with_len 0 count) → AreOfTests ads tests places
+  pub of-listed : (listed : Option (Bor (List ℕ))) (places : List ℕ) → IfSome listed (λ places. length places.now < count)
+      → IfSome listed (λ places. ArePlacesOfOne ads tests places.now)
+      → many_listed listed count ≡ least_within (many_listed listed count) ads tests
+      → places ≡ option_map_or (λ places. places.now) listed (range_with_len 0 count) → AreOfTests ads tests places
   of-listed None places few one least are =
       of-all ads tests places (omega (arith, sym (ap (λ (n : ℕ). least_within n ads tests) whole), least, whole)) (are ∙ ap (range_with_len 0) whole)
   of-listed (Some listed) places few one least are =
@@ -37,6 +41,7 @@ module _ (ads : List Advert) (tests : List Test) (count : ℕ) (whole : count �
 
 -- places that are listed of one of the tests in any memo are so in one that is right
 pub one-of : (ads : List Advert) (known : KnownTests) (tests : List Test) (listed : Option (Bor (List ℕ))) → AreTestsKnown ads known
-    → IfSome listed (λ places. (ads : List Advert) → AreTestsKnown ads known → ArePlacesOfOne ads tests places.now) → IfSome listed (λ places. ArePlacesOfOne ads tests places.now)
+    → IfSome listed (λ places. (ads : List Advert) → AreTestsKnown ads known → ArePlacesOfOne ads tests places.now)
+    → IfSome listed (λ places. ArePlacesOfOne ads tests places.now)
 one-of ads known tests None are one = tt
 one-of ads known tests (Some listed) are one = one ads are

@@ -1,5 +1,6 @@
 -- Which ads a query looks at.
-use Rattle.std.specs.Prelude.{ℕ, ◌≡◌, ◌≤◌, ◌+◌, Bool, true, false, not, ◌&&◌, suc, List, [], ◌∷◌, length, map, filter, nat_lt, Option, None, Some, if◌then◌else◌, slice_get, Contains, IsTrue}
+use Rattle.std.specs.Prelude.{ℕ, ◌≡◌, ◌≤◌, ◌+◌, Bool, true, false, not, ◌&&◌, suc, List, [], ◌∷◌, length, map, filter, nat_lt}
+use Rattle.std.specs.Prelude.{Option, None, Some, if◌then◌else◌, slice_get, Contains, IsTrue}
 use Rattle.std.specs.Borrow.{Bor}
 use Rattle.std.specs.List.{list_any}
 use Rattle.std.specs.List.Sorted.{IsPermutation}
@@ -66,7 +67,8 @@ AreAmong tests (Lookup.Both first second) = Contains tests first.now × Contains
 -- so many slots are no more than any two neighbours among these tests leave that are a pair
 abbrev pub AreFewForPairs : List Row → List Test → ℕ → Type 0
 AreFewForPairs rows tests n =
-    (k : ℕ) (first second : Test) → slice_get tests k ≡ Some first → slice_get tests (k + 1) ≡ Some second → IsTrue (is_pair first second) → n ≤ length (passing_both first second rows)
+    (k : ℕ) (first second : Test) → slice_get tests k ≡ Some first → slice_get tests (k + 1) ≡ Some second → IsTrue (is_pair first second)
+    → n ≤ length (passing_both first second rows)
 
 -- the better of the best look-up so far and another: that which leaves fewer ads
 abbrev pub better : List Row → Best → Lookup → Best

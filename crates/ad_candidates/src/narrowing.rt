@@ -9,7 +9,8 @@ ghost use Rattle.ad_store.specs.Store.{stock_of};
 ghost use Rattle.literal_index.specs.Rows.{Row};
 ghost use Rattle.literal_index.specs.Shown.{IsIndex};
 ghost use Rattle.conjunct_plan.specs.Tests.{labels_of};
-ghost use Rattle.ad_candidates.specs.Candidates.{AreAmong, AreCandidates, AreCandidatesAt, AreFewForPairs, AreOfTests, ArePlacesLeft, better, better_pair, is_paired, slots_left};
+ghost use Rattle.ad_candidates.specs.Candidates.{AreAmong, AreCandidates, AreCandidatesAt, AreFewForPairs, AreOfTests, ArePlacesLeft, better, better_pair};
+ghost use Rattle.ad_candidates.specs.Candidates.{is_paired, slots_left};
 ghost use Rattle.ad_candidates.specs.Counts.{least_left, least_within};
 ghost use Rattle.ad_candidates.specs.KnownTests.{AreTestsKnown};
 ghost use Rattle.ad_candidates.specs.Rows.{rows_of};
@@ -245,7 +246,8 @@ fn narrowest<'a>(
     ensures among { IfSome result (AreAmong tests.now) }
     ensures paired { IfSome result (λ lookup. IsTrue (is_paired lookup)) }
     ensures few { IfSome result (λ lookup. length (slots_left lookup (rows_of (stock_of store.now))) ≤ least_left (stock_of store.now).ads tests.now) }
-    ensures pairs { IfSome result (λ lookup. AreFewForPairs (rows_of (stock_of store.now)) tests.now (length (slots_left lookup (rows_of (stock_of store.now))))) }
+    ensures pairs { IfSome result (λ lookup. AreFewForPairs (rows_of (stock_of store.now)) tests.now
+        (length (slots_left lookup (rows_of (stock_of store.now))))) }
     ensures all { IfNone result (all ≡ least_within all (stock_of store.now).ads tests.now) }
 {
     for most in LIMITS {

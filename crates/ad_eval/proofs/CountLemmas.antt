@@ -1,5 +1,6 @@
 -- How many attributes weren't entered yet, from step to step.
-use Rattle.std.proofs.Common.{◌≡◌, ◌≤◌, ◌<◌, ◌+◌, ℕ, zero, suc, Bool, true, false, refl, List, [], ◌∷◌, ◌++◌, length, Some, option_map, slice_get, unwrap_or, count_by, sum_by, cond, ap, sym, ◌∙◌, subst, arith, ◌⊎◌, inl, inr, length-append}
+use Rattle.std.proofs.Common.{◌≡◌, ◌≤◌, ◌<◌, ◌+◌, ℕ, zero, suc, Bool, true, false, refl, List, [], ◌∷◌, ◌++◌, length, Some, option_map, slice_get, unwrap_or}
+use Rattle.std.proofs.Common.{count_by, sum_by, cond, ap, sym, ◌∙◌, subst, arith, ◌⊎◌, inl, inr, length-append}
 use Rattle.std.proofs.lemmas.List.Sums.{sum_by-cons}
 use Rattle.pool_text.specs.declared.language.Pos.{Pos}
 use Rattle.ad_tree.specs.Tree.{Tree}
@@ -19,11 +20,25 @@ length-first k f (suc n) = ap suc (length-first k f n)
 
 length-frames : (k f : ℕ) (gs : List Frame) → length (attributes_of_frames k f gs) ≡ sum_by (λ g. length g.attributes) gs
 length-frames k f [] = refl
-length-frames k f (g ∷ gs) = omega (arith, length-append (first_attributes k f (length g.attributes)) (attributes_of_frames k (suc f) gs), length-first k f (length g.attributes), length-frames k (suc f) gs, sum_by-cons (λ (h : Frame). length h.attributes) g gs)
+length-frames k f (g ∷ gs) =
+    omega (
+      arith,
+      length-append (first_attributes k f (length g.attributes)) (attributes_of_frames k (suc f) gs),
+      length-first k f (length g.attributes),
+      length-frames k (suc f) gs,
+      sum_by-cons (λ (h : Frame). length h.attributes) g gs,
+    )
 
 length-ads : (k : ℕ) (all : List (List Frame)) → length (attributes_of_ads k all) ≡ sum_by (λ fs. sum_by (λ g. length g.attributes) fs) all
 length-ads k [] = refl
-length-ads k (fs ∷ rest) = omega (arith, length-append (attributes_of_frames k 0 fs) (attributes_of_ads (suc k) rest), length-frames k 0 fs, length-ads (suc k) rest, sum_by-cons (λ (gs : List Frame). sum_by (λ g. length g.attributes) gs) fs rest)
+length-ads k (fs ∷ rest) =
+    omega (
+      arith,
+      length-append (attributes_of_frames k 0 fs) (attributes_of_ads (suc k) rest),
+      length-frames k 0 fs,
+      length-ads (suc k) rest,
+      sum_by-cons (λ (gs : List Frame). sum_by (λ g. length g.attributes) gs) fs rest,
+    )
 
 -- an attribute is among these
 abbrev pub IsIn : Pos → List Pos → Type 0
@@ -57,7 +72,8 @@ unfolding at_place
 IsIn-first k f zero a h = absurd (omega arith)
 IsIn-first k f (suc n) a h = by (below-suc a n h) (λ less. IsIn-first k f n a less)
   where
-    by : (n ≡ a) ⊎ (a < n) → (a < n → IsIn (record { ad = k; frame = f; attr = a }) (first_attributes k f n)) → IsIn (record { ad = k; frame = f; attr = a }) (record { ad = k; frame = f; attr = n } ∷ first_attributes k f n)
+    by : (n ≡ a) ⊎ (a < n) → (a < n → IsIn (record { ad = k; frame = f; attr = a }) (first_attributes k f n))
+        → IsIn (record { ad = k; frame = f; attr = a }) (record { ad = k; frame = f; attr = n } ∷ first_attributes k f n)
     by (inl e) more = inl (ap (λ (m : ℕ). record { ad = k; frame = f; attr = m }) e)
     by (inr less) more = inr (more less)
 
@@ -71,23 +87,28 @@ IsIn-frames k f0 j a [] t e = absurd (cc)
 IsIn-frames k f0 zero a (g ∷ gs) t e =
     let here = IsIn-first k f0 (length g.attributes) a (there-within g.attributes a t e) in
     let same : f0 ≡ f0 + 0 = omega arith in
-    IsIn-left (at_place k (f0 + 0) a) (first_attributes k f0 (length g.attributes)) (attributes_of_frames k (suc f0) gs) (subst (λ f. IsIn (at_place k f a) (first_attributes k f0 (length g.attributes))) same here)
+    IsIn-left (at_place k (f0 + 0) a) (first_attributes k f0 (length g.attributes)) (attributes_of_frames k (suc f0) gs)
+    (subst (λ f. IsIn (at_place k f a) (first_attributes k f0 (length g.attributes))) same here)
 IsIn-frames k f0 (suc j) a (g ∷ gs) t e =
     let there = IsIn-frames k (suc f0) j a gs t e in
     let same : suc f0 + j ≡ f0 + suc j = omega arith in
-    IsIn-right (at_place k (f0 + suc j) a) (first_attributes k f0 (length g.attributes)) (attributes_of_frames k (suc f0) gs) (subst (λ f. IsIn (at_place k f a) (attributes_of_frames k (suc f0) gs)) same there)
+    IsIn-right (at_place k (f0 + suc j) a) (first_attributes k f0 (length g.attributes)) (attributes_of_frames k (suc f0) gs)
+    (subst (λ f. IsIn (at_place k f a) (attributes_of_frames k (suc f0) gs)) same there)
 
-IsIn-ads : (k0 j f a : ℕ) (all : List (List Frame)) (t : Tree) → expr_at (unwrap_or (slice_get all j) []) f a ≡ Some t → IsIn (at_place (k0 + j) f a) (attributes_of_ads k0 all)
+IsIn-ads : (k0 j f a : ℕ) (all : List (List Frame)) (t : Tree) → expr_at (unwrap_or (slice_get all j) []) f a ≡ Some t
+    → IsIn (at_place (k0 + j) f a) (attributes_of_ads k0 all)
 IsIn-ads k0 j f a [] t e = absurd (cc)
 IsIn-ads k0 zero f a (fs ∷ rest) t e =
     let here = IsIn-frames k0 0 f a fs t e in
     let same : k0 ≡ k0 + 0 = omega arith in
     let frame : 0 + f ≡ f = omega arith in
-    IsIn-left (at_place (k0 + 0) f a) (attributes_of_frames k0 0 fs) (attributes_of_ads (suc k0) rest) (subst (λ k. IsIn (at_place k f a) (attributes_of_frames k0 0 fs)) same (subst (λ g. IsIn (at_place k0 g a) (attributes_of_frames k0 0 fs)) frame here))
+    IsIn-left (at_place (k0 + 0) f a) (attributes_of_frames k0 0 fs) (attributes_of_ads (suc k0) rest)
+    (subst (λ k. IsIn (at_place k f a) (attributes_of_frames k0 0 fs)) same (subst (λ g. IsIn (at_place k0 g a) (attributes_of_frames k0 0 fs)) frame here))
 IsIn-ads k0 (suc j) f a (fs ∷ rest) t e =
     let there = IsIn-ads (suc k0) j f a rest t e in
     let same : suc k0 + j ≡ k0 + suc j = omega arith in
-    IsIn-right (at_place (k0 + suc j) f a) (attributes_of_frames k0 0 fs) (attributes_of_ads (suc k0) rest) (subst (λ k. IsIn (at_place k f a) (attributes_of_ads (suc k0) rest)) same there)
+    IsIn-right (at_place (k0 + suc j) f a) (attributes_of_frames k0 0 fs) (attributes_of_ads (suc k0) rest)
+    (subst (λ k. IsIn (at_place k f a) (attributes_of_ads (suc k0) rest)) same there)
 
 IsIn-world : (w : PlainWorld) (s : Pos) (t : Tree) → expr_of w s ≡ Some t → IsIn s (attributes_of_ads 0 (ads w))
 unfolding at_place
@@ -116,7 +137,8 @@ module _ (p q : Pos → Bool) (only : (s : Pos) → q s ≡ true → p s ≡ tru
       let before : cond {A = ℕ} (p x) 1 0 ≡ 1 = ap (λ b. cond {A = ℕ} b 1 0) (ap p e ∙ was) in
       let after : cond {A = ℕ} (q x) 1 0 ≡ 0 = ap (λ b. cond {A = ℕ} b 1 0) (ap q e ∙ now) in
       omega (arith, sum_by-cons (λ s. cond (q s) 1 0) x xs, sum_by-cons (λ s. cond (p s) 1 0) x xs, count-less xs)
-  count-fewer (x ∷ xs) s (inr h) was now = omega (arith, sum_by-cons (λ s. cond (q s) 1 0) x xs, sum_by-cons (λ s. cond (p s) 1 0) x xs, one-less x, count-fewer xs s h was now)
+  count-fewer (x ∷ xs) s (inr h) was now =
+      omega (arith, sum_by-cons (λ s. cond (q s) 1 0) x xs, sum_by-cons (λ s. cond (p s) 1 0) x xs, one-less x, count-fewer xs s h was now)
 
 count-length : (p : Pos → Bool) (xs : List Pos) → count_by p xs ≤ length xs
 count-length p [] = omega arith
@@ -143,7 +165,8 @@ is_unseen-changed s q old other seen = by (same_pos s q)
     by true e = absurd (cc)
     by false e = e
 
-module _ (w : PlainWorld) (old new : Guard) (s : Pos) (other : Sight) (seen : is_unseen other ≡ false) (changed : (q : Pos) → sight_of new q ≡ cond (same_pos s q) other (sight_of old q)) where
+module _ (w : PlainWorld) (old new : Guard) (s : Pos) (other : Sight) (seen : is_unseen other ≡ false)
+    (changed : (q : Pos) → sight_of new q ≡ cond (same_pos s q) other (sight_of old q)) where
   only-unseen : (q : Pos) → is_unseen (sight_of new q) ≡ true → is_unseen (sight_of old q) ≡ true
   only-unseen q e = is_unseen-changed s q (sight_of old q) other seen (sym (ap is_unseen (changed q)) ∙ e)
 
@@ -157,12 +180,15 @@ module _ (w : PlainWorld) (old new : Guard) (s : Pos) (other : Sight) (seen : is
   unfolding unseen_count
   unseen-fewer t there fresh =
       let now = ap is_unseen (changed s ∙ ap (λ b. cond b other (sight_of old s)) (same_pos-itself s)) ∙ seen in
-      count-fewer (λ q. is_unseen (sight_of old q)) (λ q. is_unseen (sight_of new q)) only-unseen (attributes_of_ads 0 (ads w)) s (IsIn-world w s t there) (ap is_unseen fresh) now
+      count-fewer (λ q. is_unseen (sight_of old q)) (λ q. is_unseen (sight_of new q)) only-unseen (attributes_of_ads 0 (ads w)) s (IsIn-world w s t there)
+      (ap is_unseen fresh) now
 
 -- guards that know the same
 pub unseen-same : (w : PlainWorld) (old new : Guard) → ((q : Pos) → sight_of new q ≡ sight_of old q) → unseen_count w new ≡ unseen_count w old
 unfolding unseen_count
 unseen-same w old new same =
-    let less = count-less (λ q. is_unseen (sight_of old q)) (λ q. is_unseen (sight_of new q)) (λ q e. sym (ap is_unseen (same q)) ∙ e) (attributes_of_ads 0 (ads w)) in
-    let more = count-less (λ q. is_unseen (sight_of new q)) (λ q. is_unseen (sight_of old q)) (λ q e. ap is_unseen (same q) ∙ e) (attributes_of_ads 0 (ads w)) in
+    let less =
+    count-less (λ q. is_unseen (sight_of old q)) (λ q. is_unseen (sight_of new q)) (λ q e. sym (ap is_unseen (same q)) ∙ e) (attributes_of_ads 0 (ads w)) in
+    let more =
+    count-less (λ q. is_unseen (sight_of new q)) (λ q. is_unseen (sight_of old q)) (λ q e. ap is_unseen (same q) ∙ e) (attributes_of_ads 0 (ads w)) in
     omega arith

@@ -54,7 +54,8 @@ module _ (s i : TheScene) (pos : Pos) (x : Tree) (world : world_in i ≡ world_i
   pub ready_there : (g : Guard) → Ready (world_in s) g (λ n. value_with n (world_in s) (frame_of_attribute pos) x) → Ready (world_in i) g (values_in i x)
   ready_there g ready =
       subst (λ v. Ready v g (values_in i x)) (sym world)
-      (is_ready (world_in s) g (values_in i x) (ready_of (world_in s) (λ n. value_with n (world_in s) (frame_of_attribute pos) x) (values_in i x) g (λ n. sym (inner_is n)) (ready_is (world_in s) g (λ n. value_with n (world_in s) (frame_of_attribute pos) x) ready)))
+      (is_ready (world_in s) g (values_in i x) (ready_of (world_in s) (λ n. value_with n (world_in s) (frame_of_attribute pos) x) (values_in i x) g
+      (λ n. sym (inner_is n)) (ready_is (world_in s) g (λ n. value_with n (world_in s) (frame_of_attribute pos) x) ready)))
 
   module _ (g g1 : Guard) (left : i.left + 1 ≡ s.left) where
     there : (r : Result Outcome Stop) → Answers (world_in i) (values_in i x) i.left g g1 r → Answers (world_in s) (values_in i x) (s.left - 1) g g1 r
@@ -62,16 +63,21 @@ module _ (s i : TheScene) (pos : Pos) (x : Tree) (world : world_in i ≡ world_i
         subst (λ n. Answers (world_in s) (values_in i x) n g g1 r) (pred_is s.left i.left left)
         (subst (λ v. Answers v (values_in i x) i.left g g1 r) world h)
 
-    pub answer_there_none : Answers (world_in i) (values_in i x) i.left g g1 (Err Stop.References) → value_with (s.left - 1) (world_in s) (frame_of_attribute pos) x ≡ None
+    pub answer_there_none : Answers (world_in i) (values_in i x) i.left g g1 (Err Stop.References)
+        → value_with (s.left - 1) (world_in s) (frame_of_attribute pos) x ≡ None
     answer_there_none h = sym (inner_is (s.left - 1)) ∙ answer_none (world_in s) (values_in i x) (s.left - 1) g g1 (there (Err Stop.References) h)
 
-    pub answer_there_some : (o : Outcome) → Answers (world_in i) (values_in i x) i.left g g1 (Ok o) → IsReached (world_in s) (λ n. value_with n (world_in s) (frame_of_attribute pos) x) (s.left - 1) g g1 (plain o.value) o.height
-    answer_there_some o h = reached_of (world_in s) (λ n. value_with n (world_in s) (frame_of_attribute pos) x) (values_in i x) (s.left - 1) g g1 (plain o.value) o.height (λ n. sym (inner_is n)) (answer_some (world_in s) (values_in i x) (s.left - 1) g g1 o (there (Ok o) h))
+    pub answer_there_some : (o : Outcome) → Answers (world_in i) (values_in i x) i.left g g1 (Ok o)
+        → IsReached (world_in s) (λ n. value_with n (world_in s) (frame_of_attribute pos) x) (s.left - 1) g g1 (plain o.value) o.height
+    answer_there_some o h =
+        reached_of (world_in s) (λ n. value_with n (world_in s) (frame_of_attribute pos) x) (values_in i x) (s.left - 1) g g1 (plain o.value) o.height
+        (λ n. sym (inner_is n)) (answer_some (world_in s) (values_in i x) (s.left - 1) g g1 o (there (Ok o) h))
 
 pub counts_there : (s i : TheScene) (a b : ℕ) (g h : Guard) → world_in i ≡ world_in s → Counts (world_in i) a b g h → Counts (world_in s) a b g h
 counts_there s i a b g h world count = subst (λ v. Counts v a b g h) world count
 
-pub inner_work : (s i : TheScene) (inside : ℕ) → world_in i ≡ world_in s → i.left + 1 ≡ s.left → (s.left - 1) * turn (world_in s) + inside < s.left * turn (world_in s) → 8 * (i.left * turn (world_in i)) + 8 * inside < 8 * (s.left * turn (world_in s))
+pub inner_work : (s i : TheScene) (inside : ℕ) → world_in i ≡ world_in s → i.left + 1 ≡ s.left
+    → (s.left - 1) * turn (world_in s) + inside < s.left * turn (world_in s) → 8 * (i.left * turn (world_in i)) + 8 * inside < 8 * (s.left * turn (world_in s))
 inner_work s i inside world left less =
     let same = ap (λ v. i.left * turn v) world ∙ ap (λ n. n * turn (world_in s)) (pred_is s.left i.left left) in
     by (i.left * turn (world_in i)) ((s.left - 1) * turn (world_in s)) (s.left * turn (world_in s)) same less
@@ -82,14 +88,22 @@ inner_work s i inside world left less =
 -- ---- values that are kept
 module _ (w : PlainWorld) (left : ℕ) (pos : Pos) where
   -- a kept value is answered
-  pub recalls : (g : Guard) (v : Plain) (h : ℕ) (r : Result Outcome Stop) → IsReady w g (λ n. value_at n w pos) → sight_of g pos ≡ done v h → IsRecalled left v h r → Answers w (λ n. value_at n w pos) left g g r
-  recalls g v h (Ok o) ready is (value, (height, within)) = answers_some w (λ n. value_at n w pos) left g g o (reached_as w (λ n. value_at n w pos) left g g v (plain o.value) h o.height value height (kept-reached w g pos left v h ready is within))
-  recalls g v h (Err Stop.References) ready is short = stops_by w (λ n. value_at n w pos) left g g Stop.References (λ none. kept-short w g pos left v h ready is short)
+  pub recalls : (g : Guard) (v : Plain) (h : ℕ) (r : Result Outcome Stop) → IsReady w g (λ n. value_at n w pos) → sight_of g pos ≡ done v h
+      → IsRecalled left v h r → Answers w (λ n. value_at n w pos) left g g r
+  recalls g v h (Ok o) ready is (value, (height, within)) =
+      answers_some w (λ n. value_at n w pos) left g g o (reached_as w (λ n. value_at n w pos) left g g v (plain o.value) h o.height value height
+      (kept-reached w g pos left v h ready is within))
+  recalls g v h (Err Stop.References) ready is short =
+      stops_by w (λ n. value_at n w pos) left g g Stop.References (λ none. kept-short w g pos left v h ready is short)
   recalls g v h (Err Stop.OutOfMemory) ready is wanting = stops_by w (λ n. value_at n w pos) left g g Stop.OutOfMemory (λ none. absurd (cc))
 
   -- a value that is kept is answered
-  pub keeps : (g0 g2 g3 : Guard) (v : Plain) (h : ℕ) (r : Result Outcome Stop) → (((q : Pos) → sight_of g3 q ≡ cond (same_pos pos q) (done v h) (sight_of g2 q)) → IsReached w (λ n. value_at n w pos) left g0 g3 v h) → IsKept pos v h g2 g3 r → Answers w (λ n. value_at n w pos) left g0 g3 r
-  keeps g0 g2 g3 v h (Ok o) reached (value, (height, finished)) = answers_some w (λ n. value_at n w pos) left g0 g3 o (reached_as w (λ n. value_at n w pos) left g0 g3 v (plain o.value) h o.height value height (reached finished))
+  pub keeps : (g0 g2 g3 : Guard) (v : Plain) (h : ℕ) (r : Result Outcome Stop)
+      → (((q : Pos) → sight_of g3 q ≡ cond (same_pos pos q) (done v h) (sight_of g2 q)) → IsReached w (λ n. value_at n w pos) left g0 g3 v h)
+      → IsKept pos v h g2 g3 r → Answers w (λ n. value_at n w pos) left g0 g3 r
+  keeps g0 g2 g3 v h (Ok o) reached (value, (height, finished)) =
+      answers_some w (λ n. value_at n w pos) left g0 g3 o
+      (reached_as w (λ n. value_at n w pos) left g0 g3 v (plain o.value) h o.height value height (reached finished))
   keeps g0 g2 g3 v h (Err stop) reached (wanting, same) = stops_by w (λ n. value_at n w pos) left g0 g3 stop (λ is. absurd (cc))
 
   pub counts_kept : (n : ℕ) (g2 g3 : Guard) (v : Plain) (h : ℕ) (r : Result Outcome Stop) → IsKept pos v h g2 g3 r → Counts w n n g2 g3

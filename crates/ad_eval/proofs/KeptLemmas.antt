@@ -1,5 +1,6 @@
 -- How an evaluation goes from part to part: what was reached, and what is left to evaluate.
-use Rattle.std.proofs.Common.{◌≡◌, ◌≤◌, ◌<◌, ℕ, zero, suc, true, refl, Option, None, Some, IsSome, Ok, Err, List, option_map, max, ap, sym, ◌∙◌, subst, arith, ◌⊎◌, inl, inr}
+use Rattle.std.proofs.Common.{◌≡◌, ◌≤◌, ◌<◌, ℕ, zero, suc, true, refl, Option, None, Some, IsSome, Ok, Err, List, option_map, max, ap, sym, ◌∙◌, subst, arith}
+use Rattle.std.proofs.Common.{◌⊎◌, inl, inr}
 use Rattle.std.specs.Option.{is_some, option_and_then}
 use Rattle.pool_text.specs.declared.language.Pos.{Pos}
 use Rattle.cycle_guard.specs.declared.guard.Guard.{Guard}
@@ -91,14 +92,16 @@ module _ (w : PlainWorld) where
   }
 
   -- what holds between guards one after another
-  pub pending-then : (a b c : Guard) → ((s : Pos) → is_pending (sight_of b s) ≡ is_pending (sight_of a s)) → ((s : Pos) → is_pending (sight_of c s) ≡ is_pending (sight_of b s)) → (s : Pos) → is_pending (sight_of c s) ≡ is_pending (sight_of a s)
+  pub pending-then : (a b c : Guard) → ((s : Pos) → is_pending (sight_of b s) ≡ is_pending (sight_of a s))
+      → ((s : Pos) → is_pending (sight_of c s) ≡ is_pending (sight_of b s)) → (s : Pos) → is_pending (sight_of c s) ≡ is_pending (sight_of a s)
   pending-then a b c first second s = second s ∙ first s
 
   was_pending : (old new : Guard) (s : Pos) → is_pending (sight_of new s) ≡ is_pending (sight_of old s) → sight_of new s ≡ pending → sight_of old s ≡ pending
   was_pending old new s same p = is_pending-pending (sight_of old s) (sym same ∙ ap is_pending p)
 
   -- one part more is evaluated
-  pub goes_on : {A B : Type 0} (f : ℕ → Option A) (left : ℕ) (g0 g g1 : Guard) (k : ℕ → B → Option A) (a : ℕ → Option B) (h : ℕ) (v : B) (ha : ℕ) → IsPartly w f left g0 g (λ n. option_and_then (k n) (a n)) h → IsReached w a left g g1 v ha → IsPartly w f left g0 g1 (λ n. k n v) (max h ha)
+  pub goes_on : {A B : Type 0} (f : ℕ → Option A) (left : ℕ) (g0 g g1 : Guard) (k : ℕ → B → Option A) (a : ℕ → Option B) (h : ℕ) (v : B) (ha : ℕ)
+      → IsPartly w f left g0 g (λ n. option_and_then (k n) (a n)) h → IsReached w a left g g1 v ha → IsPartly w f left g0 g1 (λ n. k n v) (max h ha)
   goes_on f left g0 g g1 k a h v ha p t = record {
     continues = λ n le.
         p.continues n (omega (arith, le)) ∙ ap (option_and_then (k n)) (t.height.reached n (omega (arith, le)));
@@ -120,7 +123,8 @@ module _ (w : PlainWorld) where
       below n (inr less) lt = p.short n less
 
   -- the part that is left is reached
-  pub ends : {A : Type 0} (f : ℕ → Option A) (left : ℕ) (g0 g g1 : Guard) (rest : ℕ → Option A) (h : ℕ) (v : A) (hr : ℕ) → IsPartly w f left g0 g rest h → IsReached w rest left g g1 v hr → IsReached w f left g0 g1 v (max h hr)
+  pub ends : {A : Type 0} (f : ℕ → Option A) (left : ℕ) (g0 g g1 : Guard) (rest : ℕ → Option A) (h : ℕ) (v : A) (hr : ℕ) → IsPartly w f left g0 g rest h
+      → IsReached w rest left g g1 v hr → IsReached w f left g0 g1 v (max h hr)
   ends f left g0 g g1 rest h v hr p t = record {
     height = record {
       reached = λ n le. p.continues n (omega (arith, le)) ∙ t.height.reached n (omega (arith, le));
@@ -136,7 +140,8 @@ module _ (w : PlainWorld) where
       below n (inr less) lt = p.short n less
 
   -- what is left is a value
-  pub ends_with : {A : Type 0} (f : ℕ → Option A) (left : ℕ) (g0 g : Guard) (rest : ℕ → Option A) (h : ℕ) (v : A) → IsPartly w f left g0 g rest h → ((n : ℕ) → rest n ≡ Some v) → IsReached w f left g0 g v h
+  pub ends_with : {A : Type 0} (f : ℕ → Option A) (left : ℕ) (g0 g : Guard) (rest : ℕ → Option A) (h : ℕ) (v : A) → IsPartly w f left g0 g rest h
+      → ((n : ℕ) → rest n ≡ Some v) → IsReached w f left g0 g v h
   ends_with f left g0 g rest h v p always = record {
     height = record { reached = λ n le. p.continues n le ∙ always n; short = p.short };
     within = p.within;
@@ -145,7 +150,8 @@ module _ (w : PlainWorld) where
   }
 
   -- what is left is a function of a part that is reached
-  pub ends_mapped : {A B : Type 0} (f : ℕ → Option A) (left : ℕ) (g0 g g1 : Guard) (r : B → A) (a : ℕ → Option B) (h : ℕ) (v : B) (ha : ℕ) → IsPartly w f left g0 g (λ n. option_map r (a n)) h → IsReached w a left g g1 v ha → IsReached w f left g0 g1 (r v) (max h ha)
+  pub ends_mapped : {A B : Type 0} (f : ℕ → Option A) (left : ℕ) (g0 g g1 : Guard) (r : B → A) (a : ℕ → Option B) (h : ℕ) (v : B) (ha : ℕ)
+      → IsPartly w f left g0 g (λ n. option_map r (a n)) h → IsReached w a left g g1 v ha → IsReached w f left g0 g1 (r v) (max h ha)
   ends_mapped f left g0 g g1 r a h v ha p t = ends f left g0 g g1 (λ n. option_map r (a n)) h (r v) ha p (record {
     height = record { reached = λ n le. ap (option_map r) (t.height.reached n le); short = λ n lt. ap (option_map r) (t.height.short n lt) };
     within = t.within;
@@ -154,11 +160,13 @@ module _ (w : PlainWorld) where
   })
 
   -- what is left has no value with the references that are left
-  pub fails : {A : Type 0} (f : ℕ → Option A) (left : ℕ) (g0 g : Guard) (rest : ℕ → Option A) (h : ℕ) → IsPartly w f left g0 g rest h → rest left ≡ None → f left ≡ None
+  pub fails : {A : Type 0} (f : ℕ → Option A) (left : ℕ) (g0 g : Guard) (rest : ℕ → Option A) (h : ℕ) → IsPartly w f left g0 g rest h → rest left ≡ None
+      → f left ≡ None
   fails f left g0 g rest h p none = p.continues left p.within ∙ none
 
   -- the rest in another form
-  pub rewritten : {A : Type 0} (f : ℕ → Option A) (left : ℕ) (g0 g : Guard) (rest other : ℕ → Option A) (h : ℕ) → ((n : ℕ) → rest n ≡ other n) → IsPartly w f left g0 g rest h → IsPartly w f left g0 g other h
+  pub rewritten : {A : Type 0} (f : ℕ → Option A) (left : ℕ) (g0 g : Guard) (rest other : ℕ → Option A) (h : ℕ) → ((n : ℕ) → rest n ≡ other n)
+      → IsPartly w f left g0 g rest h → IsPartly w f left g0 g other h
   rewritten f left g0 g rest other h same p = record {
     continues = λ n le. p.continues n le ∙ same n;
     short = p.short;
@@ -176,10 +184,13 @@ module _ (w : PlainWorld) where
 -- ---- the same under other names
 
 module _ (w : PlainWorld) where
-  pub reached_as : {A : Type 0} (f : ℕ → Option A) (left : ℕ) (g0 g1 : Guard) (v u : A) (h k : ℕ) → u ≡ v → k ≡ h → IsReached w f left g0 g1 v h → IsReached w f left g0 g1 u k
-  reached_as f left g0 g1 v u h k values heights t = subst (λ x. IsReached w f left g0 g1 x k) (sym values) (subst (λ x. IsReached w f left g0 g1 v x) (sym heights) t)
+  pub reached_as : {A : Type 0} (f : ℕ → Option A) (left : ℕ) (g0 g1 : Guard) (v u : A) (h k : ℕ) → u ≡ v → k ≡ h → IsReached w f left g0 g1 v h
+      → IsReached w f left g0 g1 u k
+  reached_as f left g0 g1 v u h k values heights t =
+      subst (λ x. IsReached w f left g0 g1 x k) (sym values) (subst (λ x. IsReached w f left g0 g1 v x) (sym heights) t)
 
-  pub reached_of : {A : Type 0} (f e : ℕ → Option A) (left : ℕ) (g0 g1 : Guard) (v : A) (h : ℕ) → ((n : ℕ) → f n ≡ e n) → IsReached w e left g0 g1 v h → IsReached w f left g0 g1 v h
+  pub reached_of : {A : Type 0} (f e : ℕ → Option A) (left : ℕ) (g0 g1 : Guard) (v : A) (h : ℕ) → ((n : ℕ) → f n ≡ e n) → IsReached w e left g0 g1 v h
+      → IsReached w f left g0 g1 v h
   reached_of f e left g0 g1 v h same t = record {
     height = record { reached = λ n le. same n ∙ t.height.reached n le; short = λ n lt. same n ∙ t.height.short n lt };
     within = t.within;
@@ -213,34 +224,41 @@ pub answer_none : (w : PlainWorld) (f : ℕ → Option Plain) (left : ℕ) (old 
 unfolding Answers
 answer_none w f left old new h = h
 
-pub answer_some : (w : PlainWorld) (f : ℕ → Option Plain) (left : ℕ) (old new : Guard) (o : Outcome) → Answers w f left old new (Ok o) → IsReached w f left old new (plain o.value) o.height
+pub answer_some : (w : PlainWorld) (f : ℕ → Option Plain) (left : ℕ) (old new : Guard) (o : Outcome) → Answers w f left old new (Ok o)
+    → IsReached w f left old new (plain o.value) o.height
 unfolding Answers
 answer_some w f left old new o h = h
 
-pub answers_some : (w : PlainWorld) (f : ℕ → Option Plain) (left : ℕ) (old new : Guard) (o : Outcome) → IsReached w f left old new (plain o.value) o.height → Answers w f left old new (Ok o)
+pub answers_some : (w : PlainWorld) (f : ℕ → Option Plain) (left : ℕ) (old new : Guard) (o : Outcome) → IsReached w f left old new (plain o.value) o.height
+    → Answers w f left old new (Ok o)
 unfolding Answers
 answers_some w f left old new o h = h
 
 -- a stop, which says nothing where memory is wanting
-pub stops_by : (w : PlainWorld) (f : ℕ → Option Plain) (left : ℕ) (old new : Guard) (stop : Stop) → (stop ≡ Stop.References → f left ≡ None) → Answers w f left old new (Err stop)
+pub stops_by : (w : PlainWorld) (f : ℕ → Option Plain) (left : ℕ) (old new : Guard) (stop : Stop) → (stop ≡ Stop.References → f left ≡ None)
+    → Answers w f left old new (Err stop)
 unfolding Answers
 stops_by w f left old new Stop.References h = h refl
 stops_by w f left old new Stop.OutOfMemory h = tt
 
-pub answer_all_none : (w : PlainWorld) (f : ℕ → Option (List Plain)) (left : ℕ) (old new : Guard) → AnswersAll w f left old new (Err Stop.References) → f left ≡ None
+pub answer_all_none : (w : PlainWorld) (f : ℕ → Option (List Plain)) (left : ℕ) (old new : Guard) → AnswersAll w f left old new (Err Stop.References)
+    → f left ≡ None
 unfolding AnswersAll
 answer_all_none w f left old new h = h
 
-pub answer_all_some : (w : PlainWorld) (f : ℕ → Option (List Plain)) (left : ℕ) (old new : Guard) (o : Several) → AnswersAll w f left old new (Ok o) → IsReached w f left old new (plains o.values) o.height
+pub answer_all_some : (w : PlainWorld) (f : ℕ → Option (List Plain)) (left : ℕ) (old new : Guard) (o : Several) → AnswersAll w f left old new (Ok o)
+    → IsReached w f left old new (plains o.values) o.height
 unfolding AnswersAll
 answer_all_some w f left old new o h = h
 
-pub answers_all_some : (w : PlainWorld) (f : ℕ → Option (List Plain)) (left : ℕ) (old new : Guard) (o : Several) → IsReached w f left old new (plains o.values) o.height → AnswersAll w f left old new (Ok o)
+pub answers_all_some : (w : PlainWorld) (f : ℕ → Option (List Plain)) (left : ℕ) (old new : Guard) (o : Several)
+    → IsReached w f left old new (plains o.values) o.height → AnswersAll w f left old new (Ok o)
 unfolding AnswersAll
 answers_all_some w f left old new o h = h
 
 -- a stop, which says nothing where memory is wanting
-pub stops_all_by : (w : PlainWorld) (f : ℕ → Option (List Plain)) (left : ℕ) (old new : Guard) (stop : Stop) → (stop ≡ Stop.References → f left ≡ None) → AnswersAll w f left old new (Err stop)
+pub stops_all_by : (w : PlainWorld) (f : ℕ → Option (List Plain)) (left : ℕ) (old new : Guard) (stop : Stop) → (stop ≡ Stop.References → f left ≡ None)
+    → AnswersAll w f left old new (Err stop)
 unfolding AnswersAll
 stops_all_by w f left old new Stop.References h = h refl
 stops_all_by w f left old new Stop.OutOfMemory h = tt

@@ -18,7 +18,8 @@ abbrev pub ads_size : List (List Frame) → ℕ
 ads_size [] = 0
 ads_size (ad ∷ rest) = frames_size ad + ads_size rest
 
-size-attribute : (attributes : List (List ℕ × Tree)) (k : ℕ) (t : Tree) → option_map (λ a. a.1) (slice_get attributes k) ≡ Some t → size t ≤ attributes_size attributes
+size-attribute : (attributes : List (List ℕ × Tree)) (k : ℕ) (t : Tree) → option_map (λ a. a.1) (slice_get attributes k) ≡ Some t
+    → size t ≤ attributes_size attributes
 size-attribute [] k t e = absurd (cc)
 size-attribute (a ∷ rest) zero t e = let same : a.1 ≡ t = cc in omega (arith, ap size same)
 size-attribute (a ∷ rest) (suc k) t e = omega (arith, size-attribute rest k t e)

@@ -1,5 +1,6 @@
 -- More references never change a value that there is.
-use Rattle.std.proofs.Common.{◌≡◌, ◌≤◌, ◌+◌, ◌-◌, ℕ, zero, suc, Bool, true, false, refl, List, [], ◌∷◌, length, Option, None, Some, option_map, if◌then◌else◌, ap, sym, ◌∙◌, arith, codes}
+use Rattle.std.proofs.Common.{◌≡◌, ◌≤◌, ◌+◌, ◌-◌, ℕ, zero, suc, Bool, true, false, refl, List, [], ◌∷◌, length, Option, None, Some, option_map, if◌then◌else◌}
+use Rattle.std.proofs.Common.{ap, sym, ◌∙◌, arith, codes}
 use Rattle.std.specs.Option.{option_and_then}
 use Rattle.pool_text.specs.declared.language.AdPlace.{AdPlace}
 use Rattle.pool_text.specs.declared.language.Pos.{Pos}
@@ -27,7 +28,8 @@ Below-itself o v e = e
 Below-None : {A : Type 0} (p : Option A) → Below None p
 Below-None p v e = absurd (cc)
 
-Below-then : {A B : Type 0} (k l : A → Option B) (o p : Option A) → Below o p → ((v : A) → Below (k v) (l v)) → Below (option_and_then k o) (option_and_then l p)
+Below-then : {A B : Type 0} (k l : A → Option B) (o p : Option A) → Below o p → ((v : A) → Below (k v) (l v))
+    → Below (option_and_then k o) (option_and_then l p)
 Below-then k l None p h others u e = absurd (cc)
 Below-then k l (Some v) p h others u e = ap (option_and_then l) (h v refl) ∙ others v u e
 
@@ -57,13 +59,15 @@ either-below false x o p h = h
 conjunction-below : (left : Plain) {rs qs : List (Option Plain)} → AllBelow rs qs → Below (conjunction left rs) (conjunction left qs)
 conjunction-below left no_more = Below-itself (Some left)
 conjunction-below left (and_more {r = r} {q = q} {rs = rs} {qs = qs} h others) =
-    either-below (and_is_decided left) (Some left) (option_and_then (λ p. conjunction (and_value left p) rs) r) (option_and_then (λ p. conjunction (and_value left p) qs) q)
+    either-below (and_is_decided left) (Some left) (option_and_then (λ p. conjunction (and_value left p) rs) r)
+    (option_and_then (λ p. conjunction (and_value left p) qs) q)
     (Below-then (λ p. conjunction (and_value left p) rs) (λ p. conjunction (and_value left p) qs) r q h (λ p. conjunction-below (and_value left p) others))
 
 disjunction-below : (left : Plain) {rs qs : List (Option Plain)} → AllBelow rs qs → Below (disjunction left rs) (disjunction left qs)
 disjunction-below left no_more = Below-itself (Some left)
 disjunction-below left (and_more {r = r} {q = q} {rs = rs} {qs = qs} h others) =
-    either-below (or_is_decided left) (Some left) (option_and_then (λ p. disjunction (or_value left p) rs) r) (option_and_then (λ p. disjunction (or_value left p) qs) q)
+    either-below (or_is_decided left) (Some left) (option_and_then (λ p. disjunction (or_value left p) rs) r)
+    (option_and_then (λ p. disjunction (or_value left p) qs) q)
     (Below-then (λ p. disjunction (or_value left p) rs) (λ p. disjunction (or_value left p) qs) r q h (λ p. disjunction-below (or_value left p) others))
 
 chosen-below : (a b c d : Option Plain) (v : Plain) → Below a c → Below b d → Below (chosen a b v) (chosen c d v)
@@ -81,7 +85,8 @@ conditional-below : {rs qs : List (Option Plain)} → AllBelow rs qs → Below (
 conditional-below no_more = Below-itself (Some error)
 conditional-below (and_more h no_more) = Below-itself (Some error)
 conditional-below (and_more h (and_more k no_more)) = Below-itself (Some error)
-conditional-below (and_more {r = a} {q = x} h (and_more {r = b} {q = y} k (and_more {r = c} {q = z} l no_more))) = Below-then (chosen b c) (chosen y z) a x h (λ v. chosen-below b c y z v k l)
+conditional-below (and_more {r = a} {q = x} h (and_more {r = b} {q = y} k (and_more {r = c} {q = z} l no_more))) =
+    Below-then (chosen b c) (chosen y z) a x h (λ v. chosen-below b c y z v k l)
 conditional-below (and_more h (and_more k (and_more l (and_more m others)))) = Below-itself (Some error)
 
 module _ (at later : Pos → Option Plain) (above : (s : Pos) → Below (at s) (later s)) (w : PlainWorld) where
@@ -163,9 +168,12 @@ module _ (at later : Pos → Option Plain) (above : (s : Pos) → Below (at s) (
   subscripted-below (ad_at p) (ad_at place) = λ u e. e
 
   called-below : (x : List ℕ) {rs qs : List (Option Plain)} → AllBelow rs qs → Below (called w x rs) (called w x qs)
-  called-below x {rs = rs} {qs = qs} h = by (is_known x (length rs)) (is_known x (length qs)) (ap (is_known x) (AllBelow-length h)) (same_name x (codes "ifThenElse"))
+  called-below x {rs = rs} {qs = qs} h =
+      by (is_known x (length rs)) (is_known x (length qs)) (ap (is_known x) (AllBelow-length h)) (same_name x (codes "ifThenElse"))
     where
-      by : (a b : Bool) → a ≡ b → (c : Bool) → Below (if a then if c then conditional rs else option_map (function_value w x) (all_demanded rs) else Some error) (if b then if c then conditional qs else option_map (function_value w x) (all_demanded qs) else Some error)
+      by : (a b : Bool) → a ≡ b → (c : Bool)
+          → Below (if a then if c then conditional rs else option_map (function_value w x) (all_demanded rs) else Some error)
+          (if b then if c then conditional qs else option_map (function_value w x) (all_demanded qs) else Some error)
       by true true same true = conditional-below h
       by true true same false = Below-map (function_value w x) (all_demanded rs) (all_demanded qs) (demanded-below h)
       by true false same c = absurd (cc)
@@ -180,13 +188,15 @@ module _ (at later : Pos → Option Plain) (above : (s : Pos) → Below (at s) (
   node-below p (unary op) (and_more h (and_more k others)) = λ u e. e
   node-below p (binary op) no_more = λ u e. e
   node-below p (binary op) (and_more h no_more) = λ u e. e
-  node-below p (binary op) (and_more {r = a} {q = x} h (and_more {r = b} {q = y} k no_more)) = Below-then (λ v. option_map (binary_value op v) b) (λ v. option_map (binary_value op v) y) a x h (λ v. Below-map (binary_value op v) b y k)
+  node-below p (binary op) (and_more {r = a} {q = x} h (and_more {r = b} {q = y} k no_more)) =
+      Below-then (λ v. option_map (binary_value op v) b) (λ v. option_map (binary_value op v) y) a x h (λ v. Below-map (binary_value op v) b y k)
   node-below p (binary op) (and_more h (and_more k (and_more l others))) = λ u e. e
   node-below p all h = conjunction-below (boolean true) h
   node-below p any h = disjunction-below (boolean false) h
   node-below p choice h = conditional-below h
   node-below p (select x) no_more = λ u e. e
-  node-below p (select x) (and_more {r = a} {q = y} h no_more) = Below-then (selected (attribute_value at w) x) (selected (attribute_value later w) x) a y h (λ v. selected-below x v)
+  node-below p (select x) (and_more {r = a} {q = y} h no_more) =
+      Below-then (selected (attribute_value at w) x) (selected (attribute_value later w) x) a y h (λ v. selected-below x v)
   node-below p (select x) (and_more h (and_more k others)) = λ u e. e
   node-below p subscript no_more = λ u e. e
   node-below p subscript (and_more h no_more) = λ u e. e
@@ -211,7 +221,8 @@ value_at-below : (w : PlainWorld) (n : ℕ) (s : Pos) → Below (value_at n w s)
 unfolding value_at
 value_at-below w zero s = Below-None (value_at 1 w s)
 value_at-below w (suc n) s =
-    Below-then (value_by (value_at n w) w (frame_of_attribute s)) (value_by (value_at (suc n) w) w (frame_of_attribute s)) (expr_of w s) (expr_of w s) (Below-itself (expr_of w s))
+    Below-then (value_by (value_at n w) w (frame_of_attribute s)) (value_by (value_at (suc n) w) w (frame_of_attribute s)) (expr_of w s) (expr_of w s)
+    (Below-itself (expr_of w s))
     (λ t. tree-below (value_at n w) (value_at (suc n) w) (value_at-below w n) w (frame_of_attribute s) t)
 
 -- any number more
@@ -226,5 +237,7 @@ up_to f one n m le v e = let same : n + (m - n) ≡ m = omega arith in ap f (sym
 pub value_at-more_references : (w : PlainWorld) (s : Pos) (n m : ℕ) (v : Plain) → n ≤ m → value_at n w s ≡ Some v → value_at m w s ≡ Some v
 value_at-more_references w s n m v le e = up_to (λ k. value_at k w s) (λ k. value_at-below w k s) n m le v e
 
-pub value_with-more_references : (w : PlainWorld) (p : AdPlace) (t : Tree) (n m : ℕ) (v : Plain) → n ≤ m → value_with n w p t ≡ Some v → value_with m w p t ≡ Some v
-value_with-more_references w p t n m v le e = up_to (λ k. value_with k w p t) (λ k. tree-below (value_at k w) (value_at (suc k) w) (value_at-below w k) w p t) n m le v e
+pub value_with-more_references : (w : PlainWorld) (p : AdPlace) (t : Tree) (n m : ℕ) (v : Plain) → n ≤ m → value_with n w p t ≡ Some v
+    → value_with m w p t ≡ Some v
+value_with-more_references w p t n m v le e =
+    up_to (λ k. value_with k w p t) (λ k. tree-below (value_at k w) (value_at (suc k) w) (value_at-below w k) w p t) n m le v e

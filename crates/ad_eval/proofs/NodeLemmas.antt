@@ -33,7 +33,8 @@ module _ (vs : List Plain) where
   both p None = refl
   both p (Some ps) = ap Some (sym (append_assoc vs (p ∷ []) ps))
 
-  pub all_demanded-next : (r : Option Plain) (rs : List (Option Plain)) → values_and vs (all_demanded (r ∷ rs)) ≡ option_and_then (λ p. values_and (vs ++ p ∷ []) (all_demanded rs)) r
+  pub all_demanded-next : (r : Option Plain) (rs : List (Option Plain))
+      → values_and vs (all_demanded (r ∷ rs)) ≡ option_and_then (λ p. values_and (vs ++ p ∷ []) (all_demanded rs)) r
   all_demanded-next None rs = refl
   all_demanded-next (Some p) rs = both p (all_demanded rs)
 
@@ -43,3 +44,20 @@ module _ (vs : List Plain) where
 pub all_demanded-start : (o : Option (List Plain)) → o ≡ values_and [] o
 all_demanded-start None = refl
 all_demanded-start (Some ps) = refl
+
+-- ---- a list literal
+
+-- two functions of what is in an option, where they are alike
+pub mapped_alike : {A B : Type 0} (f g : A → B) → ((x : A) → f x ≡ g x) → (o : Option A) → option_map f o ≡ option_map g o
+mapped_alike f g alike None = refl
+mapped_alike f g alike (Some x) = ap Some (alike x)
+
+module _ (value : List Plain → Plain) where
+  then_mapped : (p : Plain) (o : Option (List Plain)) → option_map value (option_map (λ ps. p ∷ ps) o) ≡ option_map (λ ps. value (p ∷ ps)) o
+  then_mapped p None = refl
+  then_mapped p (Some ps) = refl
+
+  pub listed-next : (r : Option Plain) (rs : List (Option Plain))
+      → option_map value (all_demanded (r ∷ rs)) ≡ option_and_then (λ p. option_map (λ ps. value (p ∷ ps)) (all_demanded rs)) r
+  listed-next None rs = refl
+  listed-next (Some p) rs = then_mapped p (all_demanded rs)

@@ -1,5 +1,6 @@
 -- References: circles, attributes that are entered, and values that are kept.
-use Rattle.std.proofs.Common.{◌≡◌, ◌≢◌, ◌≤◌, ◌<◌, ◌+◌, ◌-◌, ℕ, zero, suc, true, false, refl, Option, None, Some, IsSome, cond, ap, sym, ◌∙◌, subst, arith, ◌⊎◌, inl, inr, sub-one}
+use Rattle.std.proofs.Common.{◌≡◌, ◌≢◌, ◌≤◌, ◌<◌, ◌+◌, ◌-◌, ℕ, zero, suc, true, false, refl, Option, None, Some, IsSome, cond, ap, sym, ◌∙◌, subst, arith, ◌⊎◌}
+use Rattle.std.proofs.Common.{inl, inr, sub-one}
 use Rattle.std.specs.Option.{is_some, option_and_then}
 use Rattle.pool_text.specs.declared.language.Pos.{Pos}
 use Rattle.ad_value.specs.Plain.{Plain}
@@ -46,11 +47,13 @@ Sight-pending-done : (v : Plain) (h : ℕ) → pending ≡ done v h → ⊥
 Sight-pending-done v h e = cc
 
 -- an attribute that has a value with some references is not without any
-below : (w : PlainWorld) (s : Pos) (t : Tree) → expr_of w s ≡ Some t → (n : ℕ) → IsSome (value_at n w s) → (m : ℕ) × (n ≡ suc m) × IsSome (value_with m w (frame_of_attribute s) t)
+below : (w : PlainWorld) (s : Pos) (t : Tree) → expr_of w s ≡ Some t → (n : ℕ) → IsSome (value_at n w s)
+    → (m : ℕ) × (n ≡ suc m) × IsSome (value_with m w (frame_of_attribute s) t)
 below w s t there zero some = absurd (cc (ap is_some (value_at-none w s)))
 below w s t there (suc m) some = (m, refl, subst (λ o. IsSome o) (value_at-more w s t there m) some)
 
-module _ (w : PlainWorld) (g g1 : Guard) (s : Pos) (t : Tree) (there : expr_of w s ≡ Some t) (entered : (q : Pos) → sight_of g1 q ≡ cond (same_pos s q) pending (sight_of g q)) where
+module _ (w : PlainWorld) (g g1 : Guard) (s : Pos) (t : Tree) (there : expr_of w s ≡ Some t)
+    (entered : (q : Pos) → sight_of g1 q ≡ cond (same_pos s q) pending (sight_of g q)) where
   entered-here : sight_of g1 s ≡ pending
   entered-here = entered s ∙ ap (λ b. cond b pending (sight_of g s)) (same_pos-itself s)
 
@@ -61,11 +64,13 @@ module _ (w : PlainWorld) (g g1 : Guard) (s : Pos) (t : Tree) (there : expr_of w
     wait = λ q waits n some. waited q (same_pos-cases s q) waits n some;
   }
     where
-      keeps : (q : Pos) (v : Plain) (h : ℕ) → ((same_pos s q ≡ true) × (s ≡ q)) ⊎ ((same_pos s q ≡ false) × (s ≢ q)) → sight_of g1 q ≡ done v h → HasHeight (λ n. value_at n w q) v h
+      keeps : (q : Pos) (v : Plain) (h : ℕ) → ((same_pos s q ≡ true) × (s ≡ q)) ⊎ ((same_pos s q ≡ false) × (s ≢ q)) → sight_of g1 q ≡ done v h
+          → HasHeight (λ n. value_at n w q) v h
       keeps q v h (inl same) is = absurd (Sight-pending-done v h (sym (entered q ∙ ap (λ b. cond b pending (sight_of g q)) same.0) ∙ is))
       keeps q v h (inr other) is = ready.kept q v h (sym (entered q ∙ ap (λ b. cond b pending (sight_of g q)) other.0) ∙ is)
 
-      waited : (q : Pos) → ((same_pos s q ≡ true) × (s ≡ q)) ⊎ ((same_pos s q ≡ false) × (s ≢ q)) → sight_of g1 q ≡ pending → (n : ℕ) → IsSome (value_at n w q) → (m : ℕ) × (m < n) × IsSome (value_with m w (frame_of_attribute s) t)
+      waited : (q : Pos) → ((same_pos s q ≡ true) × (s ≡ q)) ⊎ ((same_pos s q ≡ false) × (s ≢ q)) → sight_of g1 q ≡ pending → (n : ℕ) → IsSome (value_at n w q)
+          → (m : ℕ) × (m < n) × IsSome (value_with m w (frame_of_attribute s) t)
       waited q (inl same) waits n some =
           let (m, next, more) = below w s t there n (subst (λ p. IsSome (value_at n w p)) (sym same.1) some) in
           (m, omega arith, more)
@@ -85,7 +90,8 @@ module _ (w : PlainWorld) (g g1 : Guard) (s : Pos) (t : Tree) (there : expr_of w
     still_pending reached = is_pending-pending (sight_of g2 s) (reached.pending s ∙ ap is_pending entered-here)
 
     -- and then it has its value with one reference more
-    pub kept_inside : left ≢ 0 → sight_of g s ≡ unseen → ((q : Pos) → sight_of g3 q ≡ cond (same_pos s q) (done v (h + 1)) (sight_of g2 q)) → IsReached w (λ n. value_with n w (frame_of_attribute s) t) (left - 1) g1 g2 v h → IsReached w (λ n. value_at n w s) left g g3 v (h + 1)
+    pub kept_inside : left ≢ 0 → sight_of g s ≡ unseen → ((q : Pos) → sight_of g3 q ≡ cond (same_pos s q) (done v (h + 1)) (sight_of g2 q))
+        → IsReached w (λ n. value_with n w (frame_of_attribute s) t) (left - 1) g1 g2 v h → IsReached w (λ n. value_at n w s) left g g3 v (h + 1)
     kept_inside some fresh finished reached = record {
       height = height;
       within = omega (arith, reached.within);
@@ -104,15 +110,18 @@ module _ (w : PlainWorld) (g g1 : Guard) (s : Pos) (t : Tree) (there : expr_of w
             hasnt zero less = value_at-none w s
             hasnt (suc n) less = value_at-more w s t there n ∙ reached.height.short n (omega arith)
 
-        keeps : (q : Pos) (u : Plain) (k : ℕ) → ((same_pos s q ≡ true) × (s ≡ q)) ⊎ ((same_pos s q ≡ false) × (s ≢ q)) → sight_of g3 q ≡ done u k → HasHeight (λ n. value_at n w q) u k
+        keeps : (q : Pos) (u : Plain) (k : ℕ) → ((same_pos s q ≡ true) × (s ≡ q)) ⊎ ((same_pos s q ≡ false) × (s ≢ q)) → sight_of g3 q ≡ done u k
+            → HasHeight (λ n. value_at n w q) u k
         keeps q u k (inl same) is =
             let equal : done v (h + 1) ≡ done u k = sym (finished q ∙ ap (λ b. cond b (done v (h + 1)) (sight_of g2 q)) same.0) ∙ is in
             let values : v ≡ u = cc in
             let heights : h + 1 ≡ k = cc in
-            subst (λ x. HasHeight (λ n. value_at n w q) x k) values (subst (λ x. HasHeight (λ n. value_at n w q) v x) heights (subst (λ p. HasHeight (λ n. value_at n w p) v (h + 1)) same.1 height))
+            subst (λ x. HasHeight (λ n. value_at n w q) x k) values
+            (subst (λ x. HasHeight (λ n. value_at n w q) v x) heights (subst (λ p. HasHeight (λ n. value_at n w p) v (h + 1)) same.1 height))
         keeps q u k (inr other) is = reached.kept q u k (sym (finished q ∙ ap (λ b. cond b (done v (h + 1)) (sight_of g2 q)) other.0) ∙ is)
 
-        same_pending : (q : Pos) → ((same_pos s q ≡ true) × (s ≡ q)) ⊎ ((same_pos s q ≡ false) × (s ≢ q)) → is_pending (sight_of g3 q) ≡ is_pending (sight_of g q)
+        same_pending : (q : Pos) → ((same_pos s q ≡ true) × (s ≡ q)) ⊎ ((same_pos s q ≡ false) × (s ≢ q))
+            → is_pending (sight_of g3 q) ≡ is_pending (sight_of g q)
         same_pending q (inl same) =
             ap is_pending (finished q ∙ ap (λ b. cond b (done v (h + 1)) (sight_of g2 q)) same.0)
             ∙ sym (ap is_pending (ap (sight_of g) (sym same.1) ∙ fresh))

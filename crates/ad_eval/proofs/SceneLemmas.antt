@@ -21,7 +21,8 @@ module _ (scene : TheScene) (e : Tree) (n : ℕ) where
   unfolding values_in
   in_literal lit is = ap (λ t. value_with n (world_in scene) scene.at t) is
 
-  pub in_name : (scope : Scope) (x : List ℕ) → e ≡ node (name scope x) none → values_in scene e n ≡ named (value_at n (world_in scene)) (find (world_in scene) scene.at scope x)
+  pub in_name : (scope : Scope) (x : List ℕ) → e ≡ node (name scope x) none
+      → values_in scene e n ≡ named (value_at n (world_in scene)) (find (world_in scene) scene.at scope x)
   unfolding values_in
   in_name scope x is = ap (λ t. value_with n (world_in scene) scene.at t) is
 
@@ -29,7 +30,8 @@ module _ (scene : TheScene) (e : Tree) (n : ℕ) where
   unfolding values_in
   in_unary op a is = ap (λ t. value_with n (world_in scene) scene.at t) is
 
-  pub in_binary : (op : BinOp) (a b : Tree) → e ≡ node (binary op) (two a b) → values_in scene e n ≡ option_and_then (λ x. option_map (binary_value op x) (values_in scene b n)) (values_in scene a n)
+  pub in_binary : (op : BinOp) (a b : Tree) → e ≡ node (binary op) (two a b)
+      → values_in scene e n ≡ option_and_then (λ x. option_map (binary_value op x) (values_in scene b n)) (values_in scene a n)
   unfolding values_in
   in_binary op a b is = ap (λ t. value_with n (world_in scene) scene.at t) is
 
@@ -45,11 +47,14 @@ module _ (scene : TheScene) (e : Tree) (n : ℕ) where
   unfolding values_in results_in
   in_choice ts is = ap (λ t. value_with n (world_in scene) scene.at t) is
 
-  pub in_select : (x : List ℕ) (a : Tree) → e ≡ node (select x) (one a) → values_in scene e n ≡ option_and_then (selected (attribute_value (value_at n (world_in scene)) (world_in scene)) x) (values_in scene a n)
+  pub in_select : (x : List ℕ) (a : Tree) → e ≡ node (select x) (one a)
+      → values_in scene e n ≡ option_and_then (selected (attribute_value (value_at n (world_in scene)) (world_in scene)) x) (values_in scene a n)
   unfolding values_in
   in_select x a is = ap (λ t. value_with n (world_in scene) scene.at t) is
 
-  pub in_subscript : (a b : Tree) → e ≡ node subscript (two a b) → values_in scene e n ≡ option_and_then (λ x. option_and_then (subscripted (attribute_value (value_at n (world_in scene)) (world_in scene)) x) (values_in scene b n)) (values_in scene a n)
+  pub in_subscript : (a b : Tree) → e ≡ node subscript (two a b)
+      → values_in scene e n ≡ option_and_then (λ x. option_and_then (subscripted (attribute_value (value_at n (world_in scene)) (world_in scene)) x)
+      (values_in scene b n)) (values_in scene a n)
   unfolding values_in
   in_subscript a b is = ap (λ t. value_with n (world_in scene) scene.at t) is
 

@@ -9,8 +9,10 @@ use Rattle.ad_tree.specs.declared.tree.Expr.{Expr}
 use Rattle.ad_tree.specs.declared.tree.Expr.TheVariants as expr
 use Rattle.ad_tree.specs.declared.tree.Exprs.{Exprs}
 use Rattle.ad_tree.specs.declared.tree.Scope.{Scope}
-use Rattle.ad_tree.specs.Tree.{literal, name, unary, binary, all, any, choice, select, subscript, call, list, one, two, three, node, frame, none, pack, tree, trees}
-use Rattle.ad_tree.proofs.TreeLemmas.{tree-And, tree-Binary, tree-Call, tree-Cond, tree-Frame, tree-List, tree-Literal, tree-Name, tree-Or, tree-Select, tree-Subscript, tree-Unary}
+use Rattle.ad_tree.specs.Tree.{literal, name, unary, binary, all, any, choice, select, subscript, call, list, one, two, three, node, frame, none, pack, tree}
+use Rattle.ad_tree.specs.Tree.{trees}
+use Rattle.ad_tree.proofs.TreeLemmas.{tree-And, tree-Binary, tree-Call, tree-Cond, tree-Frame, tree-List, tree-Literal, tree-Name, tree-Or, tree-Select}
+use Rattle.ad_tree.proofs.TreeLemmas.{tree-Subscript, tree-Unary}
 
 module _ (e : Expr) where
   pub shape-Literal : (lit : Lit) → e ≡ expr.Literal lit → tree e ≡ node (literal lit) none
@@ -25,9 +27,11 @@ module _ (e : Expr) where
   pub shape-Unary : (op : UnOp) (a : Box Expr Global) (x : Expr) → e ≡ expr.Unary op a → x ≡ a.value → tree e ≡ node (unary op) (one (tree x))
   shape-Unary op a x is same = ap tree is ∙ tree-Unary op a ∙ ap (λ (z : Expr). node (unary op) (one (tree z))) (sym same)
 
-  pub shape-Binary : (op : BinOp) (a b : Box Expr Global) (x y : Expr) → e ≡ expr.Binary op a b → x ≡ a.value → y ≡ b.value → tree e ≡ node (binary op) (two (tree x) (tree y))
+  pub shape-Binary : (op : BinOp) (a b : Box Expr Global) (x y : Expr) → e ≡ expr.Binary op a b → x ≡ a.value → y ≡ b.value
+      → tree e ≡ node (binary op) (two (tree x) (tree y))
   shape-Binary op a b x y is left right =
-      ap tree is ∙ tree-Binary op a b ∙ ap (λ (z : Expr). node (binary op) (two (tree z) (tree b.value))) (sym left) ∙ ap (λ (z : Expr). node (binary op) (two (tree x) (tree z))) (sym right)
+      ap tree is ∙ tree-Binary op a b ∙ ap (λ (z : Expr). node (binary op) (two (tree z) (tree b.value))) (sym left)
+      ∙ ap (λ (z : Expr). node (binary op) (two (tree x) (tree z))) (sym right)
 
   pub shape-And : (items : Exprs) → e ≡ expr.And items → tree e ≡ node all (pack (trees items))
   shape-And items is = ap tree is ∙ tree-And items
@@ -35,20 +39,25 @@ module _ (e : Expr) where
   pub shape-Or : (items : Exprs) → e ≡ expr.Or items → tree e ≡ node any (pack (trees items))
   shape-Or items is = ap tree is ∙ tree-Or items
 
-  pub shape-Cond : (a b c : Box Expr Global) (x y z : Expr) → e ≡ expr.Cond a b c → x ≡ a.value → y ≡ b.value → z ≡ c.value → tree e ≡ node choice (three (tree x) (tree y) (tree z))
+  pub shape-Cond : (a b c : Box Expr Global) (x y z : Expr) → e ≡ expr.Cond a b c → x ≡ a.value → y ≡ b.value → z ≡ c.value
+      → tree e ≡ node choice (three (tree x) (tree y) (tree z))
   shape-Cond a b c x y z is first second third =
       ap tree is ∙ tree-Cond a b c
       ∙ ap (λ (u : Expr). node choice (three (tree u) (tree b.value) (tree c.value))) (sym first)
       ∙ ap (λ (u : Expr). node choice (three (tree x) (tree u) (tree c.value))) (sym second)
       ∙ ap (λ (u : Expr). node choice (three (tree x) (tree y) (tree u))) (sym third)
 
-  pub shape-Select : (a : Box Expr Global) (text : List ℕ) (x : Expr) (y : List ℕ) → e ≡ expr.Select a text → x ≡ a.value → y ≡ text → tree e ≡ node (select y) (one (tree x))
+  pub shape-Select : (a : Box Expr Global) (text : List ℕ) (x : Expr) (y : List ℕ) → e ≡ expr.Select a text → x ≡ a.value → y ≡ text
+      → tree e ≡ node (select y) (one (tree x))
   shape-Select a text x y is base named =
-      ap tree is ∙ tree-Select a text ∙ ap (λ (z : Expr). node (select text) (one (tree z))) (sym base) ∙ ap (λ (z : List ℕ). node (select z) (one (tree x))) (sym named)
+      ap tree is ∙ tree-Select a text ∙ ap (λ (z : Expr). node (select text) (one (tree z))) (sym base)
+      ∙ ap (λ (z : List ℕ). node (select z) (one (tree x))) (sym named)
 
-  pub shape-Subscript : (a b : Box Expr Global) (x y : Expr) → e ≡ expr.Subscript a b → x ≡ a.value → y ≡ b.value → tree e ≡ node subscript (two (tree x) (tree y))
+  pub shape-Subscript : (a b : Box Expr Global) (x y : Expr) → e ≡ expr.Subscript a b → x ≡ a.value → y ≡ b.value
+      → tree e ≡ node subscript (two (tree x) (tree y))
   shape-Subscript a b x y is base index =
-      ap tree is ∙ tree-Subscript a b ∙ ap (λ (z : Expr). node subscript (two (tree z) (tree b.value))) (sym base) ∙ ap (λ (z : Expr). node subscript (two (tree x) (tree z))) (sym index)
+      ap tree is ∙ tree-Subscript a b ∙ ap (λ (z : Expr). node subscript (two (tree z) (tree b.value))) (sym base)
+      ∙ ap (λ (z : Expr). node subscript (two (tree x) (tree z))) (sym index)
 
   pub shape-Call : (text : List ℕ) (items : Box Exprs Global) (x : List ℕ) (y : Exprs) → e ≡ expr.Call text items → x ≡ text → y ≡ items.value
       → tree e ≡ node (call x) (pack (trees y))

@@ -41,7 +41,8 @@ ready_new w g f fresh = is_ready w g f (record {
 })
 
 -- the answer with so many references, Error where it is none
-pub result_of : (w : PlainWorld) (f : ℕ → Option Plain) (left : ℕ) (g g1 : Guard) (r : Result Outcome Stop) (shown : Result Value OutOfMemory) (p : Plain) → unwrap_or (f left) error ≡ p → Answers w f left g g1 r → IsValueOrError r shown → IfOk shown (λ v. plain v ≡ p)
+pub result_of : (w : PlainWorld) (f : ℕ → Option Plain) (left : ℕ) (g g1 : Guard) (r : Result Outcome Stop) (shown : Result Value OutOfMemory) (p : Plain)
+    → unwrap_or (f left) error ≡ p → Answers w f left g g1 r → IsValueOrError r shown → IfOk shown (λ v. plain v ≡ p)
 result_of w f left g g1 r (Err e) p same h is = tt
 result_of w f left g g1 (Ok o) (Ok v) p same h is =
     let t = answer_some w f left g g1 o h in

@@ -1,5 +1,6 @@
 -- Values that are kept in the course of an evaluation, each with the least number of references that it needs.
-use Rattle.std.specs.Prelude.{ℕ, zero, suc, List, [], ◌∷◌, ◌++◌, length, count_by, ◌≡◌, ◌≤◌, ◌<◌, ◌+◌, Bool, true, false, Option, None, Some, IsSome, Result, Ok, Err}
+use Rattle.std.specs.Prelude.{ℕ, zero, suc, List, [], ◌∷◌, ◌++◌, length, count_by, ◌≡◌, ◌≤◌, ◌<◌, ◌+◌, Bool, true, false, Option, None, Some, IsSome, Result}
+use Rattle.std.specs.Prelude.{Ok, Err}
 use Rattle.pool_text.specs.declared.language.Pos.{Pos}
 use Rattle.ad_value.specs.Plain.{Plain}
 use Rattle.cycle_guard.specs.declared.guard.Guard.{Guard}

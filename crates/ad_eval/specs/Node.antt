@@ -49,7 +49,8 @@ function_value w x args = option_map_or (λ place. integer (pos (size_at w place
 -- a call is Error with nothing demanded where the name is unknown or the number of arguments is wrong
 abbrev pub called : PlainWorld → List ℕ → List (Option Plain) → Option Plain
 called w x rs =
-    if is_known x (length rs) then if same_name x (codes "ifThenElse") then conditional rs else option_map (function_value w x) (all_demanded rs) else Some error
+    if is_known x (length rs) then if same_name x (codes "ifThenElse") then conditional rs else option_map (function_value w x) (all_demanded rs) else Some
+    error
 
 -- ---- nodes
 

@@ -10,6 +10,7 @@ use crate::branch::{Branch, branch_of};
 use crate::calls::{apply_function, is_named};
 use crate::chain::Chain;
 use crate::evaluation::evaluate;
+use crate::listed::Listed;
 use crate::outcome::{Outcome, Several, at_least};
 use crate::scene::Scene;
 use crate::stop::Stop;
@@ -30,7 +31,8 @@ pub fn chain<E: Ledger>(
     items: &Exprs,
 ) -> Result<Outcome, Stop>
     requires { Ready (world_in scene.now) guard.old (λ n. chained kind (start kind) (results_in scene.now (pack (trees items.now)) n)) }
-    ensures answer { Answers (world_in scene.now) (λ n. chained kind (start kind) (results_in scene.now (pack (trees items.now)) n)) scene.now.left guard.old guard.new result }
+    ensures answer { Answers (world_in scene.now) (λ n. chained kind (start kind) (results_in scene.now (pack (trees items.now)) n)) scene.now.left guard.old
+        guard.new result }
     ensures counted { Counts (world_in scene.now) entry.old entry.new guard.old guard.new }
 {
     let mut so_far = kind.start();
@@ -59,7 +61,8 @@ pub fn all_of<E: Ledger>(
     items: &Exprs,
 ) -> Result<Several, Stop>
     requires { Ready (world_in scene.now) guard.old (λ n. all_demanded (results_in scene.now (pack (trees items.now)) n)) }
-    ensures answer { AnswersAll (world_in scene.now) (λ n. all_demanded (results_in scene.now (pack (trees items.now)) n)) scene.now.left guard.old guard.new result }
+    ensures answer { AnswersAll (world_in scene.now) (λ n. all_demanded (results_in scene.now (pack (trees items.now)) n)) scene.now.left guard.old guard.new
+        result }
     ensures counted { Counts (world_in scene.now) entry.old entry.new guard.old guard.new }
 {
     let mut all = Several {
@@ -79,7 +82,7 @@ pub fn all_of<E: Ledger>(
     Ok(all)
 }
 
-/// A list of the values of all expressions, Error where it weighs too much.
+/// A list of the values of all expressions, Error where it weighs too much. Then no more values are gathered, but all are demanded.
 #[cycle(evaluation)]
 pub fn list_literal<E: Ledger>(
     scene: &Scene<'_>,
@@ -91,8 +94,18 @@ pub fn list_literal<E: Ledger>(
     ensures answer { Answers (world_in scene.now) (listed_in scene.now (pack (trees items.now))) scene.now.left guard.old guard.new result }
     ensures counted { Counts (world_in scene.now) entry.old entry.new guard.old guard.new }
 {
-    let all = all_of(scene, guard, entry, items)?;
-    Ok(all.listed())
+    let mut all = Listed::new(scene.alloc);
+    for i in 0..items.len() {
+        let next = match evaluate(scene, guard, entry, items.at(i)) {
+            Ok(next) => next,
+            Err(stop) => {
+                drop(all);
+                return Err(stop);
+            }
+        };
+        all = all.with(next)?;
+    }
+    all.value(scene.alloc)
 }
 
 /// `condition ? first : second`, of which one branch at most is demanded.
@@ -105,8 +118,10 @@ pub fn conditional<E: Ledger>(
     first: &Expr,
     second: &Expr,
 ) -> Result<Outcome, Stop>
-    requires { Ready (world_in scene.now) guard.old (λ n. conditional (results_in scene.now (three (tree condition.now) (tree first.now) (tree second.now)) n)) }
-    ensures answer { Answers (world_in scene.now) (λ n. conditional (results_in scene.now (three (tree condition.now) (tree first.now) (tree second.now)) n)) scene.now.left guard.old guard.new result }
+    requires { Ready (world_in scene.now) guard.old (λ n. conditional
+        (results_in scene.now (three (tree condition.now) (tree first.now) (tree second.now)) n)) }
+    ensures answer { Answers (world_in scene.now) (λ n. conditional (results_in scene.now (three (tree condition.now) (tree first.now) (tree second.now)) n))
+        scene.now.left guard.old guard.new result }
     ensures counted { Counts (world_in scene.now) entry.old entry.new guard.old guard.new }
 {
     let condition = evaluate(scene, guard, entry, condition)?;
@@ -129,7 +144,8 @@ pub fn call_function<E: Ledger>(
     items: &Exprs,
 ) -> Result<Outcome, Stop>
     requires { Ready (world_in scene.now) guard.old (λ n. called (world_in scene.now) name.now (results_in scene.now (pack (trees items.now)) n)) }
-    ensures answer { Answers (world_in scene.now) (λ n. called (world_in scene.now) name.now (results_in scene.now (pack (trees items.now)) n)) scene.now.left guard.old guard.new result }
+    ensures answer { Answers (world_in scene.now) (λ n. called (world_in scene.now) name.now (results_in scene.now (pack (trees items.now)) n)) scene.now.left
+        guard.old guard.new result }
     ensures counted { Counts (world_in scene.now) entry.old entry.new guard.old guard.new }
 {
     if !known(name, items.len()) {

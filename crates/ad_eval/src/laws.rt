@@ -33,7 +33,8 @@ pub fn equal_worlds_are_evaluated_alike(
     at: AdPlace,
     expr: &Expr,
 )
-    ensures value { world_of one.now ≡ world_of other.now → evaluation (world_of one.now) at (tree expr.now) ≡ evaluation (world_of other.now) at (tree expr.now) }
+    ensures value { world_of one.now ≡ world_of other.now
+        → evaluation (world_of one.now) at (tree expr.now) ≡ evaluation (world_of other.now) at (tree expr.now) }
     ensures requirement { world_of one.now ≡ world_of other.now → meets_requirement (world_of one.now) at ≡ meets_requirement (world_of other.now) at }
     ensures rank { world_of one.now ≡ world_of other.now → rank_by (world_of one.now) at ≡ rank_by (world_of other.now) at }
     ensures dock { world_of one.now ≡ world_of other.now → is_docked (world_of one.now) ≡ is_docked (world_of other.now) }

@@ -9,6 +9,7 @@ mod evaluation;
 mod kept;
 mod laws;
 mod leaves;
+mod listed;
 mod operands;
 mod outcome;
 mod reference;

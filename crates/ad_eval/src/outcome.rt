@@ -1,13 +1,12 @@
 // What a step of an evaluation gives.
 ghost use Rattle.std.specs.Prelude.{◌≡◌, ◌<◌, ◌+◌, ◌^◌, ◌++◌, ◌∷◌, [], max, IfOk};
 ghost use Rattle.ad_value.specs.Logic.{and_value, or_value};
-ghost use Rattle.ad_value.specs.Demands.{list_value};
 ghost use Rattle.ad_value.specs.Operators.{binary_value, unary_value};
 ghost use Rattle.ad_value.specs.Plain.{plain, plains};
 ghost use Rattle.ad_eval.specs.Answered.{IsAtLeast};
 
 use crate::stop::Stop;
-use ad_value::{Value, Values, and_step, binary, bounded, or_step, unary};
+use ad_value::{Value, Values, and_step, binary, or_step, unary};
 use pool_text::{BinOp, OutOfMemory, UnOp};
 
 /// A value, with the least number of references that it needs.
@@ -114,18 +113,6 @@ impl Several {
             values,
             height: greater(height, needed),
         })
-    }
-
-    /// The list of these values, Error where it weighs too much.
-    pub fn listed(self) -> Outcome
-        ensures value { plain result.value ≡ list_value (plains self.values) }
-        ensures height { result.height ≡ self.height }
-    {
-        let Several { values, height } = self;
-        Outcome {
-            value: bounded(Value::List(values)),
-            height,
-        }
     }
 }
 

@@ -50,7 +50,8 @@ pub fn select(scene: &Scene<'_>, base: &Value, name: &[u8]) -> Reference
 
 /// What `base[index]` comes to: an Integer has an element of a List, and a String an attribute of an Ad.
 pub fn subscript(scene: &Scene<'_>, base: &Value, index: &Value) -> Result<Reference, OutOfMemory>
-    ensures value { IfOk result (λ r. (at : Pos → Option Plain) → value_of at r ≡ subscripted (attribute_value at (world_in scene.now)) (plain base.now) (plain index.now)) }
+    ensures value { IfOk result (λ r. (at : Pos → Option Plain)
+        → value_of at r ≡ subscripted (attribute_value at (world_in scene.now)) (plain base.now) (plain index.now)) }
     ensures there { IfOk result (λ r. IsInWorld (world_in scene.now) r) }
 {
     match (base, index) {

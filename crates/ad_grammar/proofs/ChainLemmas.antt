@@ -12,7 +12,8 @@ pub applied-push : (ops : List UnOp) (op : UnOp) (x : Inline) → applied (ops +
 applied-push [] op x = refl
 applied-push (o ∷ ops) op x = ap (over_one (unary o)) (applied-push ops op x)
 
-wrapped-push : (ops : List UnOp) (op : UnOp) (r : Reading Inline) → wrapped ops (and_then r (λ x rest. Some (over_one (unary op) x, rest))) ≡ wrapped (ops ++ op ∷ []) r
+wrapped-push : (ops : List UnOp) (op : UnOp) (r : Reading Inline)
+    → wrapped ops (and_then r (λ x rest. Some (over_one (unary op) x, rest))) ≡ wrapped (ops ++ op ∷ []) r
 wrapped-push ops op None = refl
 wrapped-push ops op (Some read) = ap (λ x. Some (x, read.1)) (sym (applied-push ops op read.0))
 
@@ -24,7 +25,8 @@ abbrev rest_of_read : List Word → Option (UnOp × List Word) → List Word
 rest_of_read ws None = ws
 rest_of_read ws (Some read) = read.1
 
-prefix_cases : (e : Rule) (w : Word) (ws : List Word) (found : Option UnOp) (op : UnOp) (rest : List Word) → option_map {U = UnOp × List Word} (λ o. (o, ws)) found ≡ Some (op, rest)
+prefix_cases : (e : Rule) (w : Word) (ws : List Word) (found : Option UnOp) (op : UnOp) (rest : List Word)
+    → option_map {U = UnOp × List Word} (λ o. (o, ws)) found ≡ Some (op, rest)
     → prefixed_or found (prefixes e ws) (postfix e (w ∷ ws)) ≡ and_then (prefixes e rest) (λ x behind. Some (over_one (unary op) x, behind))
 prefix_cases e w ws None op rest h = absurd (cc)
 prefix_cases e w ws (Some o) op rest h =
@@ -39,7 +41,8 @@ pub prefixes-turn : (e : Rule) (ops : List UnOp) (op : UnOp) (old new : List Wor
 prefixes-turn e ops op [] new h = absurd (cc)
 prefixes-turn e ops op (w ∷ ws) new h = ap (wrapped ops) (prefix_cases e w ws (prefix_word w) op new h) ∙ wrapped-push ops op (prefixes e new)
 
-prefix_behind : (ws : List Word) (found : Option UnOp) (op : UnOp) (rest : List Word) → option_map {U = UnOp × List Word} (λ o. (o, ws)) found ≡ Some (op, rest) → ws ≡ rest
+prefix_behind : (ws : List Word) (found : Option UnOp) (op : UnOp) (rest : List Word) → option_map {U = UnOp × List Word} (λ o. (o, ws)) found ≡ Some (op, rest)
+    → ws ≡ rest
 prefix_behind ws None op rest h = absurd (cc)
 prefix_behind ws (Some o) op rest h = ap (λ (r : Option (UnOp × List Word)). rest_of_read ws r) h
 

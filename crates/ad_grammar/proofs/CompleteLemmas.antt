@@ -1,18 +1,26 @@
 -- Completeness: each rule reads what is of the grammar, whatever follows that doesn't go on.
-use Rattle.std.proofs.Common.{◌≡◌, ℕ, zero, suc, ◌+◌, ◌<◌, ◌≤◌, List, [], ◌∷◌, ◌++◌, length, Option, None, Some, refl, ap, ◌∙◌, arith, length-append, append_assoc}
+use Rattle.std.proofs.Common.{◌≡◌, ℕ, zero, suc, ◌+◌, ◌<◌, ◌≤◌, List, [], ◌∷◌, ◌++◌, length, Option, None, Some, refl, ap, ◌∙◌, arith, length-append}
+use Rattle.std.proofs.Common.{append_assoc}
 use Rattle.ad_tree.specs.declared.tree.Scope.{Scope}
 use Rattle.ad_tree.specs.declared.tree.Scope.TheVariants.{Bare}
 use Rattle.ad_tree.specs.Inline.{Inline, Inlines, Defs, def}
 use Rattle.ad_tree.specs.Tree.{name}
 use Rattle.pool_text.specs.declared.language.UnOp.{UnOp}
 use Rattle.ad_lexer.specs.declared.mark.Mark.{Mark}
-use Rattle.ad_lexer.specs.declared.mark.Mark.TheVariants.{OpenParen, CloseParen, OpenBracket, CloseBracket, OpenBrace, CloseBrace, Comma, Semicolon, Dot, Assign, Question, Colon}
+use Rattle.ad_lexer.specs.declared.mark.Mark.TheVariants.{OpenParen, CloseParen, OpenBracket, CloseBracket, OpenBrace, CloseBrace, Comma, Semicolon, Dot}
+use Rattle.ad_lexer.specs.declared.mark.Mark.TheVariants.{Assign, Question, Colon}
 use Rattle.ad_builder.specs.Shapes.{leaf}
 use Rattle.ad_grammar.specs.Words.{Word, plain, mark}
-use Rattle.ad_grammar.specs.Grammar.{IsName, plain_name, quoted_name, IsExpr, conditional, level, IsLevel, operation, tighter, single, IsUnary, prefixed, bare, IsPostfix, selection, subscripted, operand, IsPrimary, constant_operand, scoped, own, called, named, listed, ad_literal, grouped, IsList, nothing, something, IsSeveral, last_one, one_more, IsAd, empty_ad, full_ad, IsDefs, last_def, closed_def, more_defs}
-use Rattle.ad_grammar.specs.Rules.{Reading, Rule, close_paren, close_brace, several, arguments, elements, definitions_behind, definitions_at, ad_behind, named_in, plain_at, primary, suffixes, postfix, prefixed_or, prefixes, operation_or, operations, level_at, conditionals, expression}
+use Rattle.ad_grammar.specs.Grammar.{IsName, plain_name, quoted_name, IsExpr, conditional, level, IsLevel, operation, tighter, single, IsUnary, prefixed, bare}
+use Rattle.ad_grammar.specs.Grammar.{IsPostfix, selection, subscripted, operand, IsPrimary, constant_operand, scoped, own, called, named, listed, ad_literal}
+use Rattle.ad_grammar.specs.Grammar.{grouped, IsList, nothing, something, IsSeveral, last_one, one_more, IsAd, empty_ad, full_ad, IsDefs, last_def, closed_def}
+use Rattle.ad_grammar.specs.Grammar.{more_defs}
+use Rattle.ad_grammar.specs.Rules.{Reading, Rule, close_paren, close_brace, several, arguments, elements, definitions_behind, definitions_at, ad_behind}
+use Rattle.ad_grammar.specs.Rules.{named_in, plain_at, primary, suffixes, postfix, prefixed_or, prefixes, operation_or, operations, level_at, conditionals}
+use Rattle.ad_grammar.specs.Rules.{expression}
 use Rattle.ad_grammar.proofs.Readings.{and_then-at, name_at-is}
-use Rattle.ad_grammar.proofs.Follows.{level_of, level_behind, Ends, ends, suffixes-stop, choice-stop, several-stop, infix_at-is, level_of-infix, operations-stop, prefixes-postfix}
+use Rattle.ad_grammar.proofs.Follows.{level_of, level_behind, Ends, ends, suffixes-stop, choice-stop, several-stop, infix_at-is, level_of-infix}
+use Rattle.ad_grammar.proofs.Follows.{operations-stop, prefixes-postfix}
 
 -- a rule that goes on as a loop with turns enough for the words that are left
 record Turns (rule : Rule) (ws rest : List Word) (loop : ℕ → Reading Inline) : Type 0 where

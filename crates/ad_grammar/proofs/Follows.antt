@@ -10,7 +10,8 @@ use Rattle.ad_builder.specs.declared.instruction.Infix.TheVariants as infixes
 use Rattle.ad_grammar.specs.Grammar.{IsNoScope}
 use Rattle.ad_grammar.specs.Operators.{precedence, infix_of}
 use Rattle.ad_grammar.specs.Words.{Word, mark}
-use Rattle.ad_grammar.specs.Rules.{Reading, Rule, several_behind, suffixes, postfix, prefix_word, prefixed_or, prefixes, at_precedence, infix_at, operation_or, operations, choice_behind}
+use Rattle.ad_grammar.specs.Rules.{Reading, Rule, several_behind, suffixes, postfix, prefix_word, prefixed_or, prefixes, at_precedence, infix_at, operation_or}
+use Rattle.ad_grammar.specs.Rules.{operations, choice_behind}
 
 -- the lowest level at which such a word goes on: 0 behind an operand, then the precedence of an operator, 11 for a
 -- conditional, 12 for one more expression; 13 is none of these

@@ -1,6 +1,7 @@
 -- A level of operators is climbed from the tightest one: levels whose operators don't stand next are passed over, and behind
 -- an operator and its right operand the climb goes on from the level of that operator.
-use Rattle.std.proofs.Common.{refl, arith, length-append, ◌≡◌, ℕ, zero, suc, ◌+◌, ◌-◌, ◌<◌, ◌≤◌, ◌==◌, Bool, true, false, List, [], ◌∷◌, length, Option, None, Some, option_map, ap, sym, ◌∙◌, if◌then◌else◌}
+use Rattle.std.proofs.Common.{refl, arith, length-append, ◌≡◌, ℕ, zero, suc, ◌+◌, ◌-◌, ◌<◌, ◌≤◌, ◌==◌, Bool, true, false, List, [], ◌∷◌, length, Option, None}
+use Rattle.std.proofs.Common.{Some, option_map, ap, sym, ◌∙◌, if◌then◌else◌}
 use Rattle.std.proofs.lemmas.Bool.Decides.{nat_tests}
 use Rattle.ad_tree.specs.Inline.{Inline}
 use Rattle.ad_builder.specs.Machine.{top, below, step}
@@ -15,7 +16,8 @@ use Rattle.ad_grammar.proofs.Readings as readings
 use Rattle.ad_grammar.proofs.Readings.{Holds, gives, holds-more}
 use Rattle.ad_grammar.proofs.SoundLemmas.{ReadsInfix, infix_at-holds, level_at-sound, expression-sound}
 
-and_then-assoc : {A B C : Type 0} (r : Reading A) (f : A → List Word → Reading B) (g : B → List Word → Reading C) → and_then (and_then r f) g ≡ and_then r (λ a ws. and_then (f a ws) g)
+and_then-assoc : {A B C : Type 0} (r : Reading A) (f : A → List Word → Reading B) (g : B → List Word → Reading C)
+    → and_then (and_then r f) g ≡ and_then r (λ a ws. and_then (f a ws) g)
 and_then-assoc None f g = refl
 and_then-assoc (Some read) f g = refl
 
@@ -37,7 +39,8 @@ level-climbs e k (suc n) ws =
     ap (λ j. level_at e j ws) next
     ∙ level-climbs e (suc k) n ws
     ∙ and_then-assoc (level_at e k ws) (λ x rest. operations (level_at e k) (suc k) (length rest) x rest) (climb e (suc k) n)
-    ∙ and_then-same (level_at e k ws) (λ x rest. and_then (operations (level_at e k) (suc k) (length rest) x rest) (climb e (suc k) n)) (climb e k (suc n)) (λ x rest. refl)
+    ∙ and_then-same (level_at e k ws) (λ x rest. and_then (operations (level_at e k) (suc k) (length rest) x rest) (climb e (suc k) n)) (climb e k (suc n))
+    (λ x rest. refl)
 
 pub level-climbed : (e : Rule) (k : ℕ) (ws rest : List Word) (x : Inline) → prefixes e ws ≡ Some (x, rest) → level_at e k ws ≡ climb e 0 k x rest
 level-climbed e k ws rest x read =
@@ -57,7 +60,8 @@ other-than k found ws other = by (found.0 == k) refl
     by true is = let same : k ≡ found.0 = grind (arith, nat_tests) in absurd (other same)
     by false is = refl
 
-at_precedence-none : (k : ℕ) (found : Option (ℕ × Infix)) (ws : List Word) → ((j : ℕ) → option_map (λ f. f.0) found ≡ Some j → (k ≡ j → ⊥)) → at_precedence k found ws ≡ None
+at_precedence-none : (k : ℕ) (found : Option (ℕ × Infix)) (ws : List Word) → ((j : ℕ) → option_map (λ f. f.0) found ≡ Some j → (k ≡ j → ⊥))
+    → at_precedence k found ws ≡ None
 at_precedence-none k None ws other = refl
 at_precedence-none k (Some found) ws other = other-than k found ws (other found.0 refl)
 
@@ -72,7 +76,8 @@ operations-none : (tight : Rule) (k n : ℕ) (x : Inline) (ws : List Word) → i
 operations-none tight k zero x ws none = refl
 operations-none tight k (suc n) x ws none = ap (operation_or tight (operations tight k n) x ws) none
 
-pass : (e : Rule) (k n : ℕ) (x : Inline) (ws : List Word) → ((j : ℕ) → precedence_at ws ≡ Some j → suc k ≡ j → ⊥) → climb e k (suc n) x ws ≡ climb e (suc k) n x ws
+pass : (e : Rule) (k n : ℕ) (x : Inline) (ws : List Word) → ((j : ℕ) → precedence_at ws ≡ Some j → suc k ≡ j → ⊥)
+    → climb e k (suc n) x ws ≡ climb e (suc k) n x ws
 pass e k n x ws other =
     ap (λ r. and_then r (climb e (suc k) n)) (operations-none (level_at e k) (suc k) (length ws) x ws (infix-none (suc k) ws other))
 
@@ -103,7 +108,8 @@ reaches e k (suc d) m x ws stands =
 
 -- what a level reads is no longer than what stood there
 level-shrinks : (f k : ℕ) (ws : List Word) → Holds (λ (x : Inline) rest. length rest ≤ length ws) (level_at (expression f) k ws)
-level-shrinks f k ws = holds-more (level_at-sound (expression f) (expression-sound f) k ws) (λ x rest s. omega (arith, ap length s.split, length-append s.front rest))
+level-shrinks f k ws =
+    holds-more (level_at-sound (expression f) (expression-sound f) k ws) (λ x rest s. omega (arith, ap length s.split, length-append s.front rest))
 
 -- any number of turns that suffices reads the same operators
 module _ (f j k : ℕ) where
@@ -121,17 +127,20 @@ module _ (f j k : ℕ) where
       Same : Type 0
       Same = (z : Inline) (rest : List Word) → length rest ≤ n → length rest ≤ m → operations tight k n z rest ≡ operations tight k m z rest
 
-      behind : Same → (op : Infix) (right : List Word) → length ws ≡ suc (length right) → (r : Reading Inline) → Holds (λ (y : Inline) rest. length rest ≤ length right) r
+      behind : Same → (op : Infix) (right : List Word) → length ws ≡ suc (length right) → (r : Reading Inline)
+          → Holds (λ (y : Inline) rest. length rest ≤ length right) r
           → and_then r (λ y. operations tight k n (joined op x y)) ≡ and_then r (λ y. operations tight k m (joined op x y))
       behind same op right longer r readings.none = refl
       behind same op right longer r (gives y rest short) = same (joined op x y) rest (omega (arith, few, longer, short)) (omega (arith, many, longer, short))
 
-      turn : Same → (r : Reading Infix) → Holds (ReadsInfix k ws) r → operation_or tight (operations tight k n) x ws r ≡ operation_or tight (operations tight k m) x ws r
+      turn : Same → (r : Reading Infix) → Holds (ReadsInfix k ws) r
+          → operation_or tight (operations tight k n) x ws r ≡ operation_or tight (operations tight k m) x ws r
       turn same r readings.none = refl
       turn same r (gives op right h) = behind same op right (ap length h.1) (tight right) (level-shrinks f j right)
 
 -- an operator that is taken: how loosely it binds, and one word less
-operator-taken : (k : ℕ) (ws : List Word) (op : Infix) (right : List Word) → infix_at k ws ≡ Some (op, right) → (precedence_at ws ≡ Some k) × (length ws ≡ suc (length right))
+operator-taken : (k : ℕ) (ws : List Word) (op : Infix) (right : List Word) → infix_at k ws ≡ Some (op, right)
+    → (precedence_at ws ≡ Some k) × (length ws ≡ suc (length right))
 operator-taken k ws op right is = by (infix_at k ws) (infix_at-holds k ws) is
   where
     by : (r : Reading Infix) → Holds (ReadsInfix k ws) r → r ≡ Some (op, right) → (precedence_at ws ≡ Some k) × (length ws ≡ suc (length right))
@@ -153,7 +162,8 @@ module _ (f : ℕ) (w : Reading Inline) (k l : ℕ) (before : List Inline) (ws :
   x = top before
 
   pub climb-end : (now : List Word) → k ≤ l → ((j : ℕ) → precedence_at ws ≡ Some j → k < j → j ≤ l → ⊥) → now ≡ ws → w ≡ Some (top before, now)
-  climb-end now below other kept = inv ∙ passes e k (l - k) x ws (λ j stands above within. other j stands above (omega arith)) ∙ ap (λ r. Some (top before, r)) (sym kept)
+  climb-end now below other kept =
+      inv ∙ passes e k (l - k) x ws (λ j stands above within. other j stands above (omega arith)) ∙ ap (λ r. Some (top before, r)) (sym kept)
 
   -- an operator of a later level is taken
   module _ (j : ℕ) (op : Infix) (right : List Word) (above : k < j) (within : j ≤ l) (taken : infix_at j ws ≡ Some (op, right)) where
@@ -168,13 +178,16 @@ module _ (f : ℕ) (w : Reading Inline) (k l : ℕ) (before : List Inline) (ws :
         ∙ ap (λ i. and_then (operations (level_at e (k + d)) i (length ws) x ws) (climb e i (l - j))) (sym here)
         ∙ ap (λ i. and_then (operations (level_at e i) j (length ws) x ws) (climb e j (l - j))) tight
 
-    turned : operations (level_at e (j - 1)) j (length ws) x ws ≡ and_then (level_at e (j - 1) right) (λ y. operations (level_at e (j - 1)) j (length right) (joined op x y))
+    turned : operations (level_at e (j - 1)) j (length ws) x ws
+        ≡ and_then (level_at e (j - 1) right) (λ y. operations (level_at e (j - 1)) j (length right) (joined op x y))
     turned =
         ap (λ n. operations (level_at e (j - 1)) j n x ws) (operator-taken j ws op right taken).1
         ∙ ap (operation_or (level_at e (j - 1)) (operations (level_at e (j - 1)) j (length right)) x ws) taken
 
     pub climb-operandless : level_at e (j - 1) right ≡ None → w ≡ None
-    climb-operandless none = inv ∙ reached ∙ ap (λ r. and_then r (climb e j (l - j))) (turned ∙ ap (λ r. and_then r (λ y. operations (level_at e (j - 1)) j (length right) (joined op x y))) none)
+    climb-operandless none =
+        inv ∙ reached ∙ ap (λ r. and_then r (climb e j (l - j))) (turned
+        ∙ ap (λ r. and_then r (λ y. operations (level_at e (j - 1)) j (length right) (joined op x y))) none)
 
     module _ (second after : List Inline) (now : List Word) (read : level_at (expression f) (j - 1) right ≡ Some (top second, now)) where
       short : length now ≤ length right

@@ -34,7 +34,8 @@ module _ (n : ℕ) (before first second : List Inline) (on : below first ≡ bef
       ∙ ap (λ st. chosen n (over_three choice (top st) (top second) x ∷ below st)) (sym on_that)
       ∙ ap (λ k. chosen k (x ∷ second)) (sym (add-one n))
 
-  pub choices-next : (r : Reading Inline) → choices n before (and_then r (λ x rest. Some (over_three choice (top first) (top second) x, rest))) ≡ choices (n + 1) second r
+  pub choices-next : (r : Reading Inline)
+      → choices n before (and_then r (λ x rest. Some (over_three choice (top first) (top second) x, rest))) ≡ choices (n + 1) second r
   choices-next None = refl
   choices-next (Some read) = ap (λ st. Some (top st, read.1)) (chosen-next read.0)
 
@@ -86,6 +87,7 @@ pub completed-new : (r : Reading Defs) → and_then r (λ ds rest. Some (inner d
 completed-new None = refl
 completed-new (Some read) = ap (λ x. Some (x, read.1)) (sym (with_definitions-joined no_defs read.0))
 
-pub completed-next : (x y : Inline) (text : List ℕ) (r : Reading Defs) → completed x (and_then r (λ ds rest. Some (def text y ds, rest))) ≡ completed (with_definition x text y) r
+pub completed-next : (x y : Inline) (text : List ℕ) (r : Reading Defs)
+    → completed x (and_then r (λ ds rest. Some (def text y ds, rest))) ≡ completed (with_definition x text y) r
 completed-next x y text None = refl
 completed-next x y text (Some read) = refl

@@ -13,12 +13,16 @@ use Rattle.ad_lexer.proofs.WordLemmas.{word_bytes, word_nonempty}
 use Rattle.ad_tree.specs.Inline.{Inline, shape, Inlines, end, next, Defs}
 use Rattle.ad_tree.specs.Tree.{all, any}
 use Rattle.ad_lexer.specs.declared.mark.Mark.{Mark}
-use Rattle.ad_lexer.specs.declared.mark.Mark.TheVariants.{OpenParen, CloseParen, OpenBracket, CloseBracket, OpenBrace, CloseBrace, Comma, Semicolon, Dot, Assign, Question, Colon}
+use Rattle.ad_lexer.specs.declared.mark.Mark.TheVariants.{OpenParen, CloseParen, OpenBracket, CloseBracket, OpenBrace, CloseBrace, Comma, Semicolon, Dot}
+use Rattle.ad_lexer.specs.declared.mark.Mark.TheVariants.{Assign, Question, Colon}
 use Rattle.ad_builder.specs.declared.instruction.Infix.{Infix}
 use Rattle.ad_builder.specs.declared.instruction.Infix.TheVariants as infixes
 use Rattle.ad_builder.specs.Shapes.{followed_by, joined}
 use Rattle.ad_grammar.specs.Words.{Word, plain, mark}
-use Rattle.ad_grammar.specs.Grammar.{IsName, plain_name, quoted_name, IsExpr, conditional, level, IsLevel, operation, tighter, single, IsUnary, prefixed, bare, IsPostfix, selection, subscripted, operand, IsPrimary, constant_operand, scoped, own, called, named, listed, ad_literal, grouped, IsList, nothing, something, IsSeveral, last_one, one_more, IsAd, empty_ad, full_ad, IsDefs, last_def, closed_def, more_defs, IsRoot}
+use Rattle.ad_grammar.specs.Grammar.{IsName, plain_name, quoted_name, IsExpr, conditional, level, IsLevel, operation, tighter, single, IsUnary, prefixed, bare}
+use Rattle.ad_grammar.specs.Grammar.{IsPostfix, selection, subscripted, operand, IsPrimary, constant_operand, scoped, own, called, named, listed, ad_literal}
+use Rattle.ad_grammar.specs.Grammar.{grouped, IsList, nothing, something, IsSeveral, last_one, one_more, IsAd, empty_ad, full_ad, IsDefs, last_def, closed_def}
+use Rattle.ad_grammar.specs.Grammar.{more_defs, IsRoot}
 use Rattle.ad_grammar.specs.Made.{IsNameText, number_of, begins_with_all, begins_with_any, IsMade, AllMade, DefsMade, IsMadeWord, AreMade}
 
 -- words in two parts, without the mark between them

@@ -2,7 +2,8 @@
 use Rattle.std.proofs.Common.{refl, arith, ◌≡◌, ℕ, zero, suc, ◌+◌, ◌<◌, ◌≤◌, ◌||◌, true, false, nat_lt, List, [], ◌∷◌, ap, ◌∙◌, Some}
 use Rattle.std.proofs.lemmas.Bool.Decides.{nat_tests}
 use Rattle.ad_lexer.specs.declared.mark.Mark.{Mark}
-use Rattle.ad_lexer.specs.declared.mark.Mark.TheVariants.{OpenParen, CloseParen, OpenBracket, CloseBracket, OpenBrace, CloseBrace, Comma, Semicolon, Dot, Assign, Question, Colon, And, Or, Not, Complement, Binary}
+use Rattle.ad_lexer.specs.declared.mark.Mark.TheVariants.{OpenParen, CloseParen, OpenBracket, CloseBracket, OpenBrace, CloseBrace, Comma, Semicolon, Dot}
+use Rattle.ad_lexer.specs.declared.mark.Mark.TheVariants.{Assign, Question, Colon, And, Or, Not, Complement, Binary}
 use Rattle.ad_lexer.specs.Lexeme.{Lexeme}
 use Rattle.ad_lexer.specs.Marks as lexer
 use Rattle.ad_lexer.specs.Marks.{mark_of_lexeme, marks_of, openings_in}
@@ -15,7 +16,8 @@ use Rattle.ad_grammar.proofs.WordLemmas.{kind-mark}
 lower : (opened closed : ℕ) (ws : List Word) → nests_deeper (suc opened) (suc closed) ws ≡ nests_deeper opened closed ws
 lower opened closed [] = refl
 lower opened closed (w ∷ ws) =
-    let same : nat_lt (suc closed + closing w + 130) (suc opened + opening w) ≡ nat_lt (closed + closing w + 130) (opened + opening w) = grind (arith, nat_tests) in
+    let same : nat_lt (suc closed + closing w + 130) (suc opened + opening w) ≡ nat_lt (closed + closing w + 130) (opened + opening w) =
+    grind (arith, nat_tests) in
     let opens : suc opened + opening w ≡ suc (opened + opening w) = omega arith in
     let closes : suc closed + closing w ≡ suc (closed + closing w) = omega arith in
     ap (λ b. b || nests_deeper (suc opened + opening w) (suc closed + closing w) ws) same
@@ -40,14 +42,16 @@ module _ (opened closed : ℕ) (w : Word) (ws : List Word) (opens closes : ℕ) 
       next ∙ ap (λ b. b || nests_deeper (opened + opens) (closed + closes) ws) fits
 
   -- the same with one construct more, and with as many as before
-  pub opened-next : (room : ℕ) → opened ≡ 130 → opened + opens ≡ suc opened → closed + closes ≡ suc room → nests_deeper opened closed (w ∷ ws) ≡ nests_deeper opened room ws
+  pub opened-next : (room : ℕ) → opened ≡ 130 → opened + opens ≡ suc opened → closed + closes ≡ suc room
+      → nests_deeper opened closed (w ∷ ws) ≡ nests_deeper opened room ws
   opened-next room at one enough =
       shallow-next (omega (arith, at, one, enough))
       ∙ ap (λ n. nests_deeper n (closed + closes) ws) one
       ∙ ap (λ n. nests_deeper (suc opened) n ws) enough
       ∙ lower opened room ws
 
-  pub passed-next : (room : ℕ) → opened ≡ 130 → opened + opens ≡ opened → closed + closes ≡ room → nests_deeper opened closed (w ∷ ws) ≡ nests_deeper opened room ws
+  pub passed-next : (room : ℕ) → opened ≡ 130 → opened + opens ≡ opened → closed + closes ≡ room
+      → nests_deeper opened closed (w ∷ ws) ≡ nests_deeper opened room ws
   passed-next room at none same =
       shallow-next (omega (arith, at, none))
       ∙ ap (λ n. nests_deeper n (closed + closes) ws) none

@@ -23,9 +23,11 @@ module _ (wanted : Option Inline) where
   pub is_read-none : (stop : Stop) → wanted ≡ None → IsRead wanted (Err stop)
   is_read-none stop is = record { ok = λ a same. absurd cc; alone = λ a same. absurd cc; none = λ same. is }
 
-  pub is_read-by : (answer : Result (List Instruction) Stop) (stop : Stop) → IsErr answer → IsErrAnd answer (λ e. e ≡ stop) → (stop ≡ stops.Grammar → wanted ≡ None) → IsRead wanted answer
+  pub is_read-by : (answer : Result (List Instruction) Stop) (stop : Stop) → IsErr answer → IsErrAnd answer (λ e. e ≡ stop)
+      → (stop ≡ stops.Grammar → wanted ≡ None) → IsRead wanted answer
   is_read-by (Ok a) stop err same h = absurd cc
-  is_read-by (Err other) stop err same h = record { ok = λ a e. absurd cc; alone = λ a e. absurd cc; none = λ e. let is : other ≡ stops.Grammar = cc in h (sym same ∙ is) }
+  is_read-by (Err other) stop err same h =
+      record { ok = λ a e. absurd cc; alone = λ a e. absurd cc; none = λ e. let is : other ≡ stops.Grammar = cc in h (sym same ∙ is) }
 
 whole-all : (x : Inline) (rest : List Word) → length rest ≡ 0 → whole (Some (x, rest)) ≡ Some x
 whole-all x [] none = refl
@@ -60,10 +62,12 @@ module _ (ws : List Word) (fuel : ℕ) (enough : fuel ≡ length ws + 1) where
         ∙ ap whole (completed-new (ad_behind (expression fuel) ws))
         ∙ ap (λ s. whole (completed (top s) (ad_behind (expression fuel) ws))) (sym is)
 
-    pub ad-all : (x : Inline) (rest : List Word) → completed (top begun) (ad_behind (expression fuel) ws) ≡ Some (x, rest) → length rest ≡ 0 → parsed_ad old ≡ Some x
+    pub ad-all : (x : Inline) (rest : List Word) → completed (top begun) (ad_behind (expression fuel) ws) ≡ Some (x, rest) → length rest ≡ 0
+        → parsed_ad old ≡ Some x
     ad-all x rest read none = whole_ad ∙ ap whole read ∙ whole-all x rest none
 
-    pub ad-more : (x : Inline) (rest : List Word) → completed (top begun) (ad_behind (expression fuel) ws) ≡ Some (x, rest) → 0 < length rest → parsed_ad old ≡ None
+    pub ad-more : (x : Inline) (rest : List Word) → completed (top begun) (ad_behind (expression fuel) ws) ≡ Some (x, rest) → 0 < length rest
+        → parsed_ad old ≡ None
     ad-more x rest read some = whole_ad ∙ ap whole read ∙ whole-more x rest some
 
     pub ad-none : completed (top begun) (ad_behind (expression fuel) ws) ≡ None → parsed_ad old ≡ None

@@ -1,5 +1,6 @@
 -- Soundness: all that the rules read is of the grammar.
-use Rattle.std.proofs.Common.{◌≡◌, ℕ, zero, suc, Bool, true, false, ◌==◌, if◌then◌else◌, List, [], ◌∷◌, ◌++◌, length, Option, None, Some, refl, sym, subst, ap, ◌∙◌, arith, append_assoc}
+use Rattle.std.proofs.Common.{◌≡◌, ℕ, zero, suc, Bool, true, false, ◌==◌, if◌then◌else◌, List, [], ◌∷◌, ◌++◌, length, Option, None, Some, refl, sym, subst, ap}
+use Rattle.std.proofs.Common.{◌∙◌, arith, append_assoc}
 use Rattle.std.proofs.lemmas.Bool.Decides.{nat_tests}
 use Rattle.std.proofs.lemmas.List.{append-nil}
 use Rattle.ad_tree.specs.declared.tree.Scope.{Scope}
@@ -7,14 +8,21 @@ use Rattle.ad_tree.specs.Inline.{Inline, Inlines, Defs, end}
 use Rattle.ad_tree.specs.Tree.{unary, select, subscript}
 use Rattle.pool_text.specs.declared.language.UnOp.{UnOp}
 use Rattle.ad_lexer.specs.declared.mark.Mark.{Mark}
-use Rattle.ad_lexer.specs.declared.mark.Mark.TheVariants.{OpenParen, CloseParen, OpenBracket, CloseBracket, OpenBrace, CloseBrace, Comma, Semicolon, Dot, Assign, Question, Colon}
+use Rattle.ad_lexer.specs.declared.mark.Mark.TheVariants.{OpenParen, CloseParen, OpenBracket, CloseBracket, OpenBrace, CloseBrace, Comma, Semicolon, Dot}
+use Rattle.ad_lexer.specs.declared.mark.Mark.TheVariants.{Assign, Question, Colon}
 use Rattle.ad_builder.specs.declared.instruction.Infix.{Infix}
 use Rattle.ad_builder.specs.Shapes.{over_one, over_two, joined}
 use Rattle.ad_grammar.specs.Operators.{infix_of}
 use Rattle.ad_grammar.specs.Words.{Word, plain, quoted, constant, mark, scope_of}
-use Rattle.ad_grammar.specs.Grammar.{IsName, plain_name, quoted_name, IsNoScope, IsExpr, conditional, level, IsLevel, operation, tighter, single, IsUnary, prefixed, bare, IsPostfix, selection, subscripted, operand, IsPrimary, constant_operand, scoped, own, called, named, listed, ad_literal, grouped, IsList, nothing, something, IsSeveral, last_one, one_more, IsAd, empty_ad, full_ad, IsDefs, last_def, closed_def, more_defs}
-use Rattle.ad_grammar.specs.Rules.{Reading, Rule, several_behind, several, arguments, elements, definitions_behind, definitions_at, ad_behind, named_in, plain_at, primary, suffixes, postfix, prefix_word, prefixed_or, prefixes, at_precedence, infix_at, operation_or, operations, level_at, choice_behind, conditionals, expression, whole}
-use Rattle.ad_grammar.proofs.Readings.{Holds, none, gives, and_then-holds, holds-more, name_at-holds, Before, close_paren-holds, close_bracket-holds, close_brace-holds, colon-holds, assigned-holds, prefix_word-mark}
+use Rattle.ad_grammar.specs.Grammar.{IsName, plain_name, quoted_name, IsNoScope, IsExpr, conditional, level, IsLevel, operation, tighter, single, IsUnary}
+use Rattle.ad_grammar.specs.Grammar.{prefixed, bare, IsPostfix, selection, subscripted, operand, IsPrimary, constant_operand, scoped, own, called, named}
+use Rattle.ad_grammar.specs.Grammar.{listed, ad_literal, grouped, IsList, nothing, something, IsSeveral, last_one, one_more, IsAd, empty_ad, full_ad, IsDefs}
+use Rattle.ad_grammar.specs.Grammar.{last_def, closed_def, more_defs}
+use Rattle.ad_grammar.specs.Rules.{Reading, Rule, several_behind, several, arguments, elements, definitions_behind, definitions_at, ad_behind, named_in}
+use Rattle.ad_grammar.specs.Rules.{plain_at, primary, suffixes, postfix, prefix_word, prefixed_or, prefixes, at_precedence, infix_at, operation_or, operations}
+use Rattle.ad_grammar.specs.Rules.{level_at, choice_behind, conditionals, expression, whole}
+use Rattle.ad_grammar.proofs.Readings.{Holds, none, gives, and_then-holds, holds-more, name_at-holds, Before, close_paren-holds, close_bracket-holds}
+use Rattle.ad_grammar.proofs.Readings.{close_brace-holds, colon-holds, assigned-holds, prefix_word-mark}
 
 -- words in front are of a relation, by the value that is read
 pub record Sound {T : Type 0} (R : List Word → T → Type 0) (ws : List Word) (x : T) (rest : List Word) : Type 0 where

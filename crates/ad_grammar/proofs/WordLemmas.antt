@@ -1,5 +1,6 @@
 -- The words of tokens, and the word and the mark at a place.
-use Rattle.std.proofs.Common.{refl, arith, ◌≡◌, inl, inr, ℕ, zero, suc, ◌+◌, ◌^◌, ◌<◌, ◌≤◌, Bool, true, false, if◌then◌else◌, List, [], ◌∷◌, codes, drop, length, ap, subst, sym, ◌∙◌, Option, None, Some, slice_get, add-one}
+use Rattle.std.proofs.Common.{refl, arith, ◌≡◌, inl, inr, ℕ, zero, suc, ◌+◌, ◌^◌, ◌<◌, ◌≤◌, Bool, true, false, if◌then◌else◌, List, [], ◌∷◌, codes, drop}
+use Rattle.std.proofs.Common.{length, ap, subst, sym, ◌∙◌, Option, None, Some, slice_get, add-one}
 use Rattle.std.proofs.lemmas.Bool.{and_parts, cases_Bool, ltb-true}
 use Rattle.std.proofs.lemmas.List.{drop_all}
 use Rattle.std.proofs.lemmas.Slice.Eq.{bytes_eq-Decides}
@@ -28,7 +29,9 @@ spelled-at (u ∷ us) zero t e are = let same : u ≡ t = cc in subst (λ x. Spe
 spelled-at (u ∷ us) (suc i) t e are = spelled-at us i t e are.1
 
 -- the mark that a word is, is the mark of its token
-no-operator : (p q r s : Bool) → mark_in (or_undefined (if p then Some (constant (Boolean true)) else (if q then Some (constant (Boolean false)) else (if r then Some (constant Undefined) else (if s then Some (constant Error) else None))))) ≡ None
+no-operator : (p q r s : Bool)
+    → mark_in (or_undefined (if p then Some (constant (Boolean true)) else (if q then Some
+    (constant (Boolean false)) else (if r then Some (constant Undefined) else (if s then Some (constant Error) else None))))) ≡ None
 no-operator true q r s = refl
 no-operator false true r s = refl
 no-operator false false true s = refl
@@ -38,10 +41,13 @@ no-operator false false false false = refl
 reserved-mark : (b : List ℕ) → mark_in (or_undefined (meaning_of reserved_words b)) ≡ meaning_of mark_words b
 reserved-mark b =
     elim (cases_Bool (bytes_eq b (codes "is"))) [
-      | inl is ↦ subst (λ (c : List ℕ). mark_in (or_undefined (meaning_of reserved_words c)) ≡ meaning_of mark_words c) (sym ((bytes_eq-Decides b (codes "is")).0 is)) refl
+      | inl is ↦ subst (λ (c : List ℕ). mark_in (or_undefined (meaning_of reserved_words c)) ≡ meaning_of mark_words c)
+          (sym ((bytes_eq-Decides b (codes "is")).0 is)) refl
       | inr isnt ↦ elim (cases_Bool (bytes_eq b (codes "isnt"))) [
-        | inl is ↦ subst (λ (c : List ℕ). mark_in (or_undefined (meaning_of reserved_words c)) ≡ meaning_of mark_words c) (sym ((bytes_eq-Decides b (codes "isnt")).0 is)) refl
-        | inr neither ↦ rw (isnt, neither) (no-operator (bytes_eq b (codes "true")) (bytes_eq b (codes "false")) (bytes_eq b (codes "undefined")) (bytes_eq b (codes "error")))
+        | inl is ↦ subst (λ (c : List ℕ). mark_in (or_undefined (meaning_of reserved_words c)) ≡ meaning_of mark_words c)
+            (sym ((bytes_eq-Decides b (codes "isnt")).0 is)) refl
+        | inr neither ↦ rw (isnt, neither) (no-operator (bytes_eq b (codes "true")) (bytes_eq b (codes "false")) (bytes_eq b (codes "undefined")) (bytes_eq b
+            (codes "error")))
       ]
     ]
 
@@ -101,7 +107,8 @@ plain-word kind bytes is = ap (λ k. word_of_kind k bytes) is
 
 no-plain : (p q r s t u : Bool) (text : List ℕ)
     → or_undefined (if p then Some (constant (Boolean true)) else (if q then Some (constant (Boolean false)) else (if r then Some (constant Undefined)
-    else (if s then Some (constant Error) else (if t then Some (mark (Binary Same)) else (if u then Some (mark (Binary NotSame)) else None)))))) ≡ plain text → ⊥
+    else (if s then Some (constant Error) else (if t then Some (mark (Binary Same)) else (if u then Some (mark (Binary NotSame)) else None)))))) ≡ plain text
+    → ⊥
 no-plain true q r s t u text e = absurd (cc)
 no-plain false true r s t u text e = absurd (cc)
 no-plain false false true s t u text e = absurd (cc)
@@ -125,7 +132,8 @@ plain-kind kinds.Int bytes text e = absurd (cc)
 plain-kind kinds.Dec bytes text e = absurd (cc)
 plain-kind kinds.Symbol bytes text e = absurd (no-plain-mark (meaning_of marks bytes) text e)
 
-pub plain-at : (ts : List Lexeme) (i : ℕ) (t : Lexeme) (text : List ℕ) (rest : List Word) → slice_get ts i ≡ Some t → drop i (words ts) ≡ plain text ∷ rest → t.kind ≡ kinds.Plain
+pub plain-at : (ts : List Lexeme) (i : ℕ) (t : Lexeme) (text : List ℕ) (rest : List Word) → slice_get ts i ≡ Some t → drop i (words ts) ≡ plain text ∷ rest
+    → t.kind ≡ kinds.Plain
 plain-at ts i t text rest e is =
     let both : word t ∷ drop 1 (drop i (words ts)) ≡ plain text ∷ rest = sym (word-at ts i t e) ∙ is in
     let same : word t ≡ plain text = cc in

@@ -7,7 +7,8 @@ use Rattle.pool_text.specs.declared.language.UnOp.{UnOp}
 use Rattle.ad_tree.specs.Inline.{Inline, Inlines, Defs, shape, inner, end, next, no_defs, def}
 use Rattle.ad_tree.specs.Tree.{literal, name, unary, choice, select, subscript, call, list}
 use Rattle.ad_lexer.specs.declared.mark.Mark.{Mark}
-use Rattle.ad_lexer.specs.declared.mark.Mark.TheVariants.{OpenParen, CloseParen, OpenBracket, CloseBracket, OpenBrace, CloseBrace, Comma, Semicolon, Dot, Assign, Question, Colon}
+use Rattle.ad_lexer.specs.declared.mark.Mark.TheVariants.{OpenParen, CloseParen, OpenBracket, CloseBracket, OpenBrace, CloseBrace, Comma, Semicolon, Dot}
+use Rattle.ad_lexer.specs.declared.mark.Mark.TheVariants.{Assign, Question, Colon}
 use Rattle.ad_builder.specs.declared.instruction.Infix.{Infix}
 use Rattle.ad_builder.specs.Shapes.{leaf, over_one, over_two, over_three, joined}
 use Rattle.ad_grammar.specs.Operators.{infix_of, prefix_of}
@@ -26,12 +27,14 @@ IsNoScope ws = Unit {0}
 mutual
   -- an expression: `condition ? one : other`, or what binds tighter
   pub data IsExpr : List Word → Inline → Type 0 where
-    conditional : (ws c a b : List Word) (x y z : Inline) → ws ≡ c ++ mark Question ∷ (a ++ mark Colon ∷ b) → IsLevel 10 c x → IsExpr a y → IsExpr b z → IsExpr ws (over_three choice x y z)
+    conditional : (ws c a b : List Word) (x y z : Inline) → ws ≡ c ++ mark Question ∷ (a ++ mark Colon ∷ b) → IsLevel 10 c x → IsExpr a y → IsExpr b z
+        → IsExpr ws (over_three choice x y z)
     level : (ws : List Word) (x : Inline) → IsLevel 10 ws x → IsExpr ws x
 
   -- operands and operators that bind at most this loosely; operators group to the left
   pub data IsLevel : ℕ → List Word → Inline → Type 0 where
-    operation : (k : ℕ) (ws a b : List Word) (m : Mark) (op : Infix) (x y : Inline) → ws ≡ a ++ mark m ∷ b → infix_of m ≡ Some (suc k, op) → IsLevel (suc k) a x → IsLevel k b y → IsLevel (suc k) ws (joined op x y)
+    operation : (k : ℕ) (ws a b : List Word) (m : Mark) (op : Infix) (x y : Inline) → ws ≡ a ++ mark m ∷ b → infix_of m ≡ Some (suc k, op) → IsLevel (suc k) a x
+        → IsLevel k b y → IsLevel (suc k) ws (joined op x y)
     tighter : (k : ℕ) (ws : List Word) (x : Inline) → IsLevel k ws x → IsLevel (suc k) ws x
     single : (ws : List Word) (x : Inline) → IsUnary ws x → IsLevel zero ws x
 
@@ -42,16 +45,20 @@ mutual
 
   -- selections and subscripts behind an operand
   pub data IsPostfix : List Word → Inline → Type 0 where
-    selection : (ws a : List Word) (w : Word) (text : List ℕ) (x : Inline) → ws ≡ a ++ mark Dot ∷ w ∷ [] → IsNoScope a → IsPostfix a x → IsName w text → IsPostfix ws (over_one (select text) x)
-    subscripted : (ws a b : List Word) (x y : Inline) → ws ≡ a ++ mark OpenBracket ∷ (b ++ mark CloseBracket ∷ []) → IsPostfix a x → IsExpr b y → IsPostfix ws (over_two subscript x y)
+    selection : (ws a : List Word) (w : Word) (text : List ℕ) (x : Inline) → ws ≡ a ++ mark Dot ∷ w ∷ [] → IsNoScope a → IsPostfix a x → IsName w text
+        → IsPostfix ws (over_one (select text) x)
+    subscripted : (ws a b : List Word) (x y : Inline) → ws ≡ a ++ mark OpenBracket ∷ (b ++ mark CloseBracket ∷ []) → IsPostfix a x → IsExpr b y
+        → IsPostfix ws (over_two subscript x y)
     operand : (ws : List Word) (x : Inline) → IsPrimary ws x → IsPostfix ws x
 
   -- what needs no operator
   pub data IsPrimary : List Word → Inline → Type 0 where
     constant_operand : (lit : Lit) → IsPrimary (constant lit ∷ []) (leaf (literal lit))
-    scoped : (scope : Scope) (word text : List ℕ) (w : Word) → scope_of word ≡ Some scope → IsName w text → IsPrimary (plain word ∷ mark Dot ∷ w ∷ []) (leaf (name scope text))
+    scoped : (scope : Scope) (word text : List ℕ) (w : Word) → scope_of word ≡ Some scope → IsName w text
+        → IsPrimary (plain word ∷ mark Dot ∷ w ∷ []) (leaf (name scope text))
     own : (w : Word) (text : List ℕ) → IsName w text → IsPrimary (mark Dot ∷ w ∷ []) (leaf (name My text))
-    called : (function : List ℕ) (ws all : List Word) (xs : Inlines) → all ≡ plain function ∷ mark OpenParen ∷ (ws ++ mark CloseParen ∷ []) → IsList ws xs → IsPrimary all (shape (call function) xs)
+    called : (function : List ℕ) (ws all : List Word) (xs : Inlines) → all ≡ plain function ∷ mark OpenParen ∷ (ws ++ mark CloseParen ∷ []) → IsList ws xs
+        → IsPrimary all (shape (call function) xs)
     named : (w : Word) (text : List ℕ) → IsName w text → IsPrimary (w ∷ []) (leaf (name Bare text))
     listed : (ws all : List Word) (xs : Inlines) → all ≡ mark OpenBrace ∷ (ws ++ mark CloseBrace ∷ []) → IsList ws xs → IsPrimary all (shape list xs)
     ad_literal : (ws : List Word) (ds : Defs) → IsAd ws ds → IsPrimary ws (inner ds)
@@ -75,8 +82,10 @@ mutual
   -- definitions divided by semicolons; one more may stand behind the last
   pub data IsDefs : List Word → Defs → Type 0 where
     last_def : (w : Word) (text : List ℕ) (ws : List Word) (x : Inline) → IsName w text → IsExpr ws x → IsDefs (w ∷ mark Assign ∷ ws) (def text x no_defs)
-    closed_def : (w : Word) (text : List ℕ) (ws all : List Word) (x : Inline) → all ≡ w ∷ mark Assign ∷ (ws ++ mark Semicolon ∷ []) → IsName w text → IsExpr ws x → IsDefs all (def text x no_defs)
-    more_defs : (w : Word) (text : List ℕ) (ws more all : List Word) (x : Inline) (ds : Defs) → all ≡ w ∷ mark Assign ∷ (ws ++ mark Semicolon ∷ more) → IsName w text → IsExpr ws x → IsDefs more ds → IsDefs all (def text x ds)
+    closed_def : (w : Word) (text : List ℕ) (ws all : List Word) (x : Inline) → all ≡ w ∷ mark Assign ∷ (ws ++ mark Semicolon ∷ []) → IsName w text
+        → IsExpr ws x → IsDefs all (def text x no_defs)
+    more_defs : (w : Word) (text : List ℕ) (ws more all : List Word) (x : Inline) (ds : Defs) → all ≡ w ∷ mark Assign ∷ (ws ++ mark Semicolon ∷ more)
+        → IsName w text → IsExpr ws x → IsDefs more ds → IsDefs all (def text x ds)
 
 -- the words are an ad, taken as an ad literal
 abbrev pub IsRoot : List Word → Inline → Type 0

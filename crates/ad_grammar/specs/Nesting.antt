@@ -26,7 +26,8 @@ closing word = 0
 -- after so many opening and closing words, some word brings the former above the latter by more than the limit
 abbrev pub nests_deeper : ℕ → ℕ → List Word → Bool
 nests_deeper opened closed [] = false
-nests_deeper opened closed (w ∷ ws) = nat_lt (closed + closing w + nesting_limit) (opened + opening w) || nests_deeper (opened + opening w) (closed + closing w) ws
+nests_deeper opened closed (w ∷ ws) =
+    nat_lt (closed + closing w + nesting_limit) (opened + opening w) || nests_deeper (opened + opening w) (closed + closing w) ws
 
 -- behind some of the words, more constructs are open than may be
 abbrev pub nests_too_deep : List Word → Bool

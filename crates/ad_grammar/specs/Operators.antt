@@ -1,7 +1,8 @@
 -- The tables of the operators.
 use Rattle.std.specs.Prelude.{ℕ, Option, None, Some}
 use Rattle.pool_text.specs.declared.language.BinOp.{BinOp}
-use Rattle.pool_text.specs.declared.language.BinOp.TheVariants.{BitOr, BitXor, BitAnd, Equal, Unequal, Same, NotSame, Less, AtMost, Greater, AtLeast, ShiftLeft, ShiftRight, ShiftZero, Add, Sub, Mul, Div, Rem}
+use Rattle.pool_text.specs.declared.language.BinOp.TheVariants.{BitOr, BitXor, BitAnd, Equal, Unequal, Same, NotSame, Less, AtMost, Greater, AtLeast, ShiftLeft}
+use Rattle.pool_text.specs.declared.language.BinOp.TheVariants.{ShiftRight, ShiftZero, Add, Sub, Mul, Div, Rem}
 use Rattle.pool_text.specs.declared.language.UnOp.{UnOp}
 use Rattle.pool_text.specs.declared.language.UnOp.TheVariants as before
 use Rattle.ad_builder.specs.declared.instruction.Infix.{Infix}

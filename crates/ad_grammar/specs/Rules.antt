@@ -6,7 +6,8 @@ use Rattle.ad_tree.specs.declared.tree.Scope.TheVariants.{Bare, My}
 use Rattle.pool_text.specs.declared.language.UnOp.{UnOp}
 use Rattle.ad_tree.specs.Inline.{Inline, Inlines, Defs, shape, inner, end, next, no_defs, def}
 use Rattle.ad_tree.specs.Tree.{literal, name, unary, choice, select, subscript, call, list}
-use Rattle.ad_lexer.specs.declared.mark.Mark.TheVariants.{OpenParen, CloseParen, OpenBracket, CloseBracket, OpenBrace, CloseBrace, Comma, Semicolon, Dot, Assign, Question, Colon}
+use Rattle.ad_lexer.specs.declared.mark.Mark.TheVariants.{OpenParen, CloseParen, OpenBracket, CloseBracket, OpenBrace, CloseBrace, Comma, Semicolon, Dot}
+use Rattle.ad_lexer.specs.declared.mark.Mark.TheVariants.{Assign, Question, Colon}
 use Rattle.ad_builder.specs.declared.instruction.Infix.{Infix}
 use Rattle.ad_builder.specs.Shapes.{leaf, over_one, over_two, over_three, joined}
 use Rattle.ad_grammar.specs.Operators.{infix_of, prefix_of}
@@ -167,7 +168,8 @@ colon x ws = None
 
 -- what follows a condition: `? one : other`, or nothing
 abbrev pub choice_behind : Rule → Rule → Inline → List Word → Reading Inline
-choice_behind e more c (mark Question ∷ ws) = and_then (and_then (e ws) colon) (λ a behind. and_then (more behind) (λ b rest. Some (over_three choice c a b, rest)))
+choice_behind e more c (mark Question ∷ ws) =
+    and_then (and_then (e ws) colon) (λ a behind. and_then (more behind) (λ b rest. Some (over_three choice c a b, rest)))
 choice_behind e more c ws = Some (c, ws)
 
 -- a conditional, or what binds tighter; behind its `:` another may stand, and so on, at most so many in all

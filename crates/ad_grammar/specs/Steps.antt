@@ -100,7 +100,8 @@ defined_at ws = and_then (name_at ws) (λ text rest. assigned (λ more. Some (te
 -- whether definitions go on behind one, or end with their bracket
 abbrev pub ContinuesOk : List Word → Bool → List Word → Type 0
 ContinuesOk old true new =
-    (more : List Word → Reading Defs) (text : List ℕ) (x : Inline) → definitions_behind more text x old ≡ and_then (more new) (λ ds rest. Some (def text x ds, rest))
+    (more : List Word → Reading Defs) (text : List ℕ) (x : Inline)
+    → definitions_behind more text x old ≡ and_then (more new) (λ ds rest. Some (def text x ds, rest))
 ContinuesOk old false new = (more : List Word → Reading Defs) (text : List ℕ) (x : Inline) → definitions_behind more text x old ≡ Some (def text x no_defs, new)
 
 pub record Continues (old new : List Word) (answer : Result Bool Stop) : Type 0 where

@@ -82,7 +82,8 @@ pub(crate) fn lone_element(
 /// A plain name or a literal. Answers whether one stands there.
 #[inline(always)]
 fn leaf(alloc: Global, reader: &mut Reader<'_>, machine: &mut Machine) -> Result<bool, OutOfMemory>
-    ensures put { result ≡ Ok true → (i : Instruction) × (put_at (left reader.old) ≡ Some (i, left reader.new)) × (stack machine.new ≡ step i (stack machine.old)) }
+    ensures put { result ≡ Ok true
+        → (i : Instruction) × (put_at (left reader.old) ≡ Some (i, left reader.new)) × (stack machine.new ≡ step i (stack machine.old)) }
     ensures kept { result ≡ Ok false → left reader.new ≡ left reader.old }
     ensures same { result ≡ Ok false → stack machine.new ≡ stack machine.old }
 {

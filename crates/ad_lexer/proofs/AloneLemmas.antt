@@ -1,6 +1,8 @@
 -- What is spelled as a token is one, before bytes that don't change it.
-use Rattle.std.proofs.Common.{◌≡◌, ℕ, zero, suc, ◌<◌, ◌≤◌, Bool, true, false, cond, eqb, leb, not, ◌&&◌, ◌||◌, List, [], ◌∷◌, ◌++◌, length, take, drop, slice_index, refl, sym, ◌∙◌, ap, subst, inl, inr, arith, length-append}
-use Rattle.std.proofs.lemmas.Bool.{cases_Bool, cases_lt, and_parts, and_from, or_parts, or_cases, and_left, and_right, or_left, or_right, not-true, not_from_false, true≢false, eq-eqb}
+use Rattle.std.proofs.Common.{◌≡◌, ℕ, zero, suc, ◌<◌, ◌≤◌, Bool, true, false, cond, eqb, leb, not, ◌&&◌, ◌||◌, List, [], ◌∷◌, ◌++◌, length, take, drop}
+use Rattle.std.proofs.Common.{slice_index, refl, sym, ◌∙◌, ap, subst, inl, inr, arith, length-append}
+use Rattle.std.proofs.lemmas.Bool.{cases_Bool, cases_lt, and_parts, and_from, or_parts, or_cases, and_left, and_right, or_left, or_right, not-true}
+use Rattle.std.proofs.lemmas.Bool.{not_from_false, true≢false, eq-eqb}
 use Rattle.std.proofs.lemmas.Bool.Decides.{nat_tests}
 use Rattle.std.proofs.lemmas.List.{take_at, append_cancel_left}
 use Rattle.std.proofs.lemmas.Slice.Eq.{bytes_eq-Decides}
@@ -33,7 +35,8 @@ use Rattle.ad_lexer.proofs.WordLemmas.{word_bytes, word_begins, word_nonempty}
 
 -- ---- what is read as a token of its whole length is one
 
-token_by : (kind : TokenKind) (bytes after : List ℕ) (at : TokenAt kind (bytes ++ after) (length bytes)) → next (bytes ++ after) ≡ steps.Token kind (length bytes) → IsToken kind bytes after
+token_by : (kind : TokenKind) (bytes after : List ℕ) (at : TokenAt kind (bytes ++ after) (length bytes))
+    → next (bytes ++ after) ≡ steps.Token kind (length bytes) → IsToken kind bytes after
 token_by kind bytes after at reads =
     let same : at.bytes ≡ bytes = sym (first_same bytes after at.bytes at.after at.text_is (sym at.length_is)) in
     let rest : at.after ≡ after = sym (append_cancel_left bytes after at.after (at.text_is ∙ ap (λ (b : List ℕ). b ++ at.after) same)) in
@@ -45,7 +48,8 @@ token_is kind bytes after reads = token_by kind bytes after (subst (λ s. Stands
 
 -- ---- words
 
-pub word_alone : (bytes after : List ℕ) → is_word bytes ≡ true → ends_word (slice_index after 0) ≡ true → next (bytes ++ after) ≡ steps.Token (cond (is_reserved bytes) Reserved Plain) (length bytes)
+pub word_alone : (bytes after : List ℕ) → is_word bytes ≡ true → ends_word (slice_index after 0) ≡ true
+    → next (bytes ++ after) ≡ steps.Token (cond (is_reserved bytes) Reserved Plain) (length bytes)
 word_alone bytes after is ends =
     let text : List ℕ = bytes ++ after in
     let n : ℕ = length bytes in
@@ -57,14 +61,16 @@ word_alone bytes after is ends =
 
 -- ---- integers
 
-hexadecimal_more : (bytes after : List ℕ) → is_hexadecimal bytes ≡ true → list_all is_ascii_hexdigit (drop 2 bytes) ≡ true → is_word_byte (slice_index after 0) ≡ false → (is_hexadecimal (bytes ++ after) ≡ true) × (number_len (bytes ++ after) ≡ length bytes)
+hexadecimal_more : (bytes after : List ℕ) → is_hexadecimal bytes ≡ true → list_all is_ascii_hexdigit (drop 2 bytes) ≡ true
+    → is_word_byte (slice_index after 0) ≡ false → (is_hexadecimal (bytes ++ after) ≡ true) × (number_len (bytes ++ after) ≡ length bytes)
 hexadecimal_more [] after is each ends = absurd (grind (arith, nat_tests))
 hexadecimal_more (a ∷ []) after is each ends = absurd (grind (arith, nat_tests))
 hexadecimal_more (a ∷ b ∷ bytes) after is each ends =
     let run : prefix_len is_ascii_hexdigit (bytes ++ after) ≡ length bytes = run_exact is_ascii_hexdigit bytes after each (λ some. grind (arith, nat_tests)) in
     (is, rw is (omega arith))
 
-decimal_isnt : (bytes after : List ℕ) → 0 < length bytes → is_hexadecimal bytes ≡ false → is_word_byte (slice_index after 0) ≡ false → is_hexadecimal (bytes ++ after) ≡ false
+decimal_isnt : (bytes after : List ℕ) → 0 < length bytes → is_hexadecimal bytes ≡ false → is_word_byte (slice_index after 0) ≡ false
+    → is_hexadecimal (bytes ++ after) ≡ false
 decimal_isnt [] after some isnt ends = absurd (omega arith)
 decimal_isnt (a ∷ []) after some isnt ends = grind (arith, nat_tests)
 decimal_isnt (a ∷ b ∷ bytes) after some isnt ends = isnt
@@ -72,7 +78,8 @@ decimal_isnt (a ∷ b ∷ bytes) after some isnt ends = isnt
 no_digit : (byte : ℕ) → is_word_byte byte ≡ false → is_ascii_digit byte ≡ false
 no_digit byte ends = grind (arith, nat_tests)
 
-decimal_more : (bytes after : List ℕ) → is_integer bytes ≡ true → is_hexadecimal bytes ≡ false → is_word_byte (slice_index after 0) ≡ false → eqb (slice_index after 0) 46 ≡ false
+decimal_more : (bytes after : List ℕ) → is_integer bytes ≡ true → is_hexadecimal bytes ≡ false → is_word_byte (slice_index after 0) ≡ false
+    → eqb (slice_index after 0) 46 ≡ false
     → (is_hexadecimal (bytes ++ after) ≡ false) × (has_fraction (bytes ++ after) ≡ false) × (number_len (bytes ++ after) ≡ length bytes)
 decimal_more bytes after is isnt ends no_dot =
     let parts = integer_decimal bytes is isnt in
@@ -82,11 +89,13 @@ decimal_more bytes after is isnt ends no_dot =
     let run : prefix_len is_ascii_digit text ≡ length bytes = run_exact is_ascii_digit bytes after parts.1 (λ some. no_digit (slice_index after 0) ends) in
     (other, whole, plain_len (is_hexadecimal text) (has_fraction text) _ _ (prefix_len is_ascii_digit text) other whole ∙ run)
 
-mark_off : (byte : ℕ) (hexadecimal : Bool) → is_word_byte byte ≡ false → (hexadecimal || not (eqb byte 46)) ≡ true → (is_decimal_mark byte && not hexadecimal) ≡ false
+mark_off : (byte : ℕ) (hexadecimal : Bool) → is_word_byte byte ≡ false → (hexadecimal || not (eqb byte 46)) ≡ true
+    → (is_decimal_mark byte && not hexadecimal) ≡ false
 mark_off byte true isnt ends = and_right (is_decimal_mark byte) false refl
 mark_off byte false isnt ends = grind (arith, nat_tests)
 
-mark_same : (byte : ℕ) (here other : Bool) → here ≡ other → is_word_byte byte ≡ false → (other || not (eqb byte 46)) ≡ true → (is_decimal_mark byte && not here) ≡ false
+mark_same : (byte : ℕ) (here other : Bool) → here ≡ other → is_word_byte byte ≡ false → (other || not (eqb byte 46)) ≡ true
+    → (is_decimal_mark byte && not here) ≡ false
 mark_same byte here other same isnt ends = ap (λ (h : Bool). is_decimal_mark byte && not h) same ∙ mark_off byte other isnt ends
 
 no_dot_behind : (hexadecimal dot : Bool) → hexadecimal ≡ false → (hexadecimal || not dot) ≡ true → dot ≡ false
@@ -94,25 +103,33 @@ no_dot_behind false dot isnt is = not-true dot is
 no_dot_behind true dot isnt is = absurd (true≢false isnt)
 
 -- a number that stands first is a token where nothing behind it goes on with it
-token_by_number : (marked whole : Bool) (kind : TokenKind) (len : ℕ) → marked ≡ false → whole ≡ true → cond marked (steps.Fault faults.Decimal 0) (cond whole (steps.Token kind len) (steps.Fault faults.Number 0)) ≡ steps.Token kind len
+token_by_number : (marked whole : Bool) (kind : TokenKind) (len : ℕ) → marked ≡ false → whole ≡ true
+    → cond marked (steps.Fault faults.Decimal 0) (cond whole (steps.Token kind len) (steps.Fault faults.Number 0)) ≡ steps.Token kind len
 token_by_number false true kind len off is = refl
 token_by_number true whole kind len off is = absurd (true≢false off)
 token_by_number false false kind len off is = absurd (true≢false (sym is))
 
-number_alone : (bytes after : List ℕ) (decimal : Bool) → is_ascii_digit (slice_index (bytes ++ after) 0) ≡ true → is_number decimal bytes ≡ true → is_word_byte (slice_index after 0) ≡ false
-    → (is_decimal_mark (slice_index after 0) && not (is_hexadecimal (bytes ++ after))) ≡ false → has_fraction (bytes ++ after) ≡ decimal → number_len (bytes ++ after) ≡ length bytes → next (bytes ++ after) ≡ steps.Token (number_kind decimal) (length bytes)
+number_alone : (bytes after : List ℕ) (decimal : Bool) → is_ascii_digit (slice_index (bytes ++ after) 0) ≡ true → is_number decimal bytes ≡ true
+    → is_word_byte (slice_index after 0) ≡ false
+    → (is_decimal_mark (slice_index after 0) && not (is_hexadecimal (bytes ++ after))) ≡ false → has_fraction (bytes ++ after) ≡ decimal
+    → number_len (bytes ++ after) ≡ length bytes → next (bytes ++ after) ≡ steps.Token (number_kind decimal) (length bytes)
 number_alone bytes after decimal digit is isnt off same len =
     let text : List ℕ = bytes ++ after in
     let behind : behind_number text ≡ slice_index after 0 = ap (λ (n : ℕ). slice_index text n) len ∙ at_behind bytes after in
-    let marked : (is_decimal_mark (behind_number text) && not (is_hexadecimal text)) ≡ false = ap (λ (b : ℕ). is_decimal_mark b && not (is_hexadecimal text)) behind ∙ off in
+    let marked : (is_decimal_mark (behind_number text) && not (is_hexadecimal text)) ≡ false =
+    ap (λ (b : ℕ). is_decimal_mark b && not (is_hexadecimal text)) behind ∙ off in
     let front : take (number_len text) text ≡ bytes = ap (λ (n : ℕ). take n text) len ∙ take_at bytes after (length bytes) refl in
-    let whole : is_number (has_fraction text) (take (number_len text) text) ≡ true = ap (λ (d : Bool). is_number d (take (number_len text) text)) same ∙ ap (is_number decimal) front ∙ is in
-    let ends : not (is_word_byte (behind_number text)) ≡ true = ap (λ (b : ℕ). not (is_word_byte b)) behind ∙ not_from_false (is_word_byte (slice_index after 0)) isnt in
+    let whole : is_number (has_fraction text) (take (number_len text) text) ≡ true =
+    ap (λ (d : Bool). is_number d (take (number_len text) text)) same ∙ ap (is_number decimal) front ∙ is in
+    let ends : not (is_word_byte (behind_number text)) ≡ true =
+    ap (λ (b : ℕ). not (is_word_byte b)) behind ∙ not_from_false (is_word_byte (slice_index after 0)) isnt in
     number_next text digit ∙ number_is text
-    ∙ token_by_number (is_marked text) (is_token text) (number_kind (has_fraction text)) (number_len text) marked (and_from (not (is_word_byte (behind_number text))) _ ends whole)
+    ∙ token_by_number (is_marked text) (is_token text) (number_kind (has_fraction text)) (number_len text) marked
+    (and_from (not (is_word_byte (behind_number text))) _ ends whole)
     ∙ ap (λ (d : Bool). steps.Token (number_kind d) (number_len text)) same ∙ ap (λ (n : ℕ). steps.Token (number_kind decimal) n) len
 
-pub integer_alone : (bytes after : List ℕ) → is_integer bytes ≡ true → ends_integer bytes (slice_index after 0) ≡ true → next (bytes ++ after) ≡ steps.Token Int (length bytes)
+pub integer_alone : (bytes after : List ℕ) → is_integer bytes ≡ true → ends_integer bytes (slice_index after 0) ≡ true
+    → next (bytes ++ after) ≡ steps.Token Int (length bytes)
 integer_alone bytes after is ends =
     let byte : ℕ = slice_index after 0 in
     let both = and_parts (not (is_word_byte byte)) (is_hexadecimal bytes || not (eqb byte 46)) ends in
@@ -121,20 +138,24 @@ integer_alone bytes after is ends =
     elim (cases_Bool (is_hexadecimal bytes)) [
       | inl hexadecimal ↦
           let more = hexadecimal_more bytes after hexadecimal (integer_hexadecimal bytes is hexadecimal) isnt in
-          number_alone bytes after false digit is isnt (mark_same byte (is_hexadecimal (bytes ++ after)) (is_hexadecimal bytes) (more.0 ∙ sym hexadecimal) isnt both.1) (hexadecimal_whole (bytes ++ after) more.0) more.1
+          number_alone bytes after false digit is isnt (mark_same byte (is_hexadecimal (bytes ++ after)) (is_hexadecimal bytes) (more.0 ∙ sym hexadecimal) isnt
+          both.1) (hexadecimal_whole (bytes ++ after) more.0) more.1
       | inr other ↦
           let more = decimal_more bytes after is other isnt (no_dot_behind (is_hexadecimal bytes) (eqb byte 46) other both.1) in
-          number_alone bytes after false digit is isnt (mark_same byte (is_hexadecimal (bytes ++ after)) (is_hexadecimal bytes) (more.0 ∙ sym other) isnt both.1) more.1 more.2
+          number_alone bytes after false digit is isnt (mark_same byte (is_hexadecimal (bytes ++ after)) (is_hexadecimal bytes) (more.0 ∙ sym other) isnt
+          both.1) more.1 more.2
     ]
 
-pub decimal_alone : (bytes after : List ℕ) → is_decimal_number bytes ≡ true → ends_decimal (slice_index after 0) ≡ true → next (bytes ++ after) ≡ steps.Token Dec (length bytes)
+pub decimal_alone : (bytes after : List ℕ) → is_decimal_number bytes ≡ true → ends_decimal (slice_index after 0) ≡ true
+    → next (bytes ++ after) ≡ steps.Token Dec (length bytes)
 decimal_alone bytes after is ends =
     let byte : ℕ = slice_index after 0 in
     let both = and_parts (not (is_word_byte byte)) (not (eqb byte 46)) ends in
     let isnt : is_word_byte byte ≡ false = not-true _ both.0 in
     let fraction = decimal_fraction bytes after is in
     let plain : is_hexadecimal (bytes ++ after) ≡ false = not-true _ (and_parts (not (is_hexadecimal (bytes ++ after))) _ fraction).0 in
-    let off : (is_decimal_mark byte && not (is_hexadecimal (bytes ++ after))) ≡ false = ap (λ (h : Bool). is_decimal_mark byte && not h) plain ∙ mark_off byte false isnt both.1 in
+    let off : (is_decimal_mark byte && not (is_hexadecimal (bytes ++ after))) ≡ false =
+    ap (λ (h : Bool). is_decimal_mark byte && not h) plain ∙ mark_off byte false isnt both.1 in
     number_alone bytes after true (decimal_begins bytes after is) is isnt off fraction (decimal_exact bytes after is (no_digit byte isnt))
 
 -- ---- symbols
@@ -157,10 +178,12 @@ longer_goes_on bytes byte longer rest is begins =
     let needle : List ℕ = bytes ++ byte ∷ [] in
     any_weaker (bytes_eq longer) (λ s. bytes_eq needle (take (length needle) s)) (λ s same.
     let whole : longer ≡ s = (bytes_eq-Decides longer s).0 same in
-    same_true needle (take (length needle) s) (sym (take_at needle rest (length needle) refl) ∙ ap (λ (l : List ℕ). take (length needle) l) (sym begins ∙ whole))) symbols is
+    same_true needle (take (length needle) s) (sym (take_at needle rest (length needle) refl)
+    ∙ ap (λ (l : List ℕ). take (length needle) l) (sym begins ∙ whole))) symbols is
 
 -- the longest symbol is no longer where none goes on
-begins_longer : (bytes after : List ℕ) (n : ℕ) → length bytes < n → n ≤ length (bytes ++ after) → (rest : List ℕ) × (take n (bytes ++ after) ≡ (bytes ++ slice_index after 0 ∷ []) ++ rest)
+begins_longer : (bytes after : List ℕ) (n : ℕ) → length bytes < n → n ≤ length (bytes ++ after)
+    → (rest : List ℕ) × (take n (bytes ++ after) ≡ (bytes ++ slice_index after 0 ∷ []) ++ rest)
 begins_longer [] [] n more fits = absurd (omega arith)
 begins_longer [] (a ∷ after) zero more fits = absurd (omega arith)
 begins_longer [] (a ∷ after) (suc n) more fits = (take n after, refl)
@@ -169,7 +192,8 @@ begins_longer (b ∷ bytes) after (suc n) more fits =
     let rest = begins_longer bytes after n (omega arith) (omega arith) in
     (rest.0, ap (λ (l : List ℕ). b ∷ l) rest.1)
 
-symbol_exact : (bytes after : List ℕ) (n : ℕ) → is_symbol bytes ≡ true → goes_on bytes (slice_index after 0) ≡ false → symbol_len (slice_index (bytes ++ after) 0) (slice_index (bytes ++ after) 1) (slice_index (bytes ++ after) 2) ≡ n → n ≡ length bytes
+symbol_exact : (bytes after : List ℕ) (n : ℕ) → is_symbol bytes ≡ true → goes_on bytes (slice_index after 0) ≡ false
+    → symbol_len (slice_index (bytes ++ after) 0) (slice_index (bytes ++ after) 1) (slice_index (bytes ++ after) 2) ≡ n → n ≡ length bytes
 symbol_exact bytes after n is stays len =
     let reach = symbol_reaches bytes after is in
     let some = (symbol_short bytes is).0 in
@@ -185,7 +209,8 @@ symbol_token : (n : ℕ) → 0 < n → symbol_of n ≡ steps.Token Symbol n
 symbol_token zero some = absurd (omega arith)
 symbol_token (suc n) some = let positive : eqb (suc n) 0 ≡ false = grind (arith, nat_tests) in rw positive refl
 
-other_alone : (bytes after : List ℕ) → is_symbol bytes ≡ true → goes_on bytes (slice_index after 0) ≡ false → is_dot_digit (bytes ++ after) ≡ false → symbol (bytes ++ after) ≡ steps.Token Symbol (length bytes)
+other_alone : (bytes after : List ℕ) → is_symbol bytes ≡ true → goes_on bytes (slice_index after 0) ≡ false → is_dot_digit (bytes ++ after) ≡ false
+    → symbol (bytes ++ after) ≡ steps.Token Symbol (length bytes)
 unfolding symbol
 other_alone bytes after is stays dot =
     let text : List ℕ = bytes ++ after in
@@ -197,7 +222,8 @@ other_alone bytes after is stays dot =
 dot_by : (dot digit : Bool) → ((dot && true) && digit) ≡ false → (dot && digit) ≡ false
 dot_by dot digit is = grind (arith, nat_tests)
 
-no_dot : (bytes after : List ℕ) → is_symbol bytes ≡ true → (bytes_eq bytes (46 ∷ []) && is_ascii_digit (slice_index after 0)) ≡ false → is_dot_digit (bytes ++ after) ≡ false
+no_dot : (bytes after : List ℕ) → is_symbol bytes ≡ true → (bytes_eq bytes (46 ∷ []) && is_ascii_digit (slice_index after 0)) ≡ false
+    → is_dot_digit (bytes ++ after) ≡ false
 no_dot [] after is ends = absurd (true≢false (sym is))
 no_dot (byte ∷ []) after is ends = dot_by (eqb byte 46) (is_ascii_digit (slice_index after 0)) ends
 no_dot (byte ∷ b ∷ more) after is ends =
@@ -211,7 +237,9 @@ slash_token byte after ends =
     let parts = or_parts (eqb (slice_index after 0) 47) (eqb (slice_index after 0) 42) ends in
     rw (parts.0, parts.1) refl
 
-slash_whole : (bytes after : List ℕ) → is_symbol bytes ≡ true → begin_of (slice_index (bytes ++ after) 0) ≡ begins.Slash → length bytes ≤ 1 → (bytes_eq bytes (47 ∷ []) && (eqb (slice_index after 0) 47 || eqb (slice_index after 0) 42)) ≡ false → next (bytes ++ after) ≡ steps.Token Symbol (length bytes)
+slash_whole : (bytes after : List ℕ) → is_symbol bytes ≡ true → begin_of (slice_index (bytes ++ after) 0) ≡ begins.Slash → length bytes ≤ 1
+    → (bytes_eq bytes (47 ∷ []) && (eqb (slice_index after 0) 47 || eqb (slice_index after 0) 42)) ≡ false
+    → next (bytes ++ after) ≡ steps.Token Symbol (length bytes)
 slash_whole [] after is slashed short ends = absurd (true≢false (sym is))
 slash_whole (byte ∷ []) after is slashed short ends =
     let first : byte ≡ 47 = begin_is byte begins.Slash slashed in
@@ -219,7 +247,8 @@ slash_whole (byte ∷ []) after is slashed short ends =
     next_at (byte ∷ after) begins.Slash (omega arith) slashed ∙ slash_token byte after alone
 slash_whole (byte ∷ b ∷ more) after is slashed short ends = absurd (omega arith)
 
-pub symbol_alone : (bytes after : List ℕ) → is_symbol bytes ≡ true → ends_symbol bytes (slice_index after 0) ≡ true → next (bytes ++ after) ≡ steps.Token Symbol (length bytes)
+pub symbol_alone : (bytes after : List ℕ) → is_symbol bytes ≡ true → ends_symbol bytes (slice_index after 0) ≡ true
+    → next (bytes ++ after) ≡ steps.Token Symbol (length bytes)
 symbol_alone bytes after is ends =
     let byte : ℕ = slice_index after 0 in
     let both = and_parts _ (not (bytes_eq bytes (47 ∷ []) && (eqb byte 47 || eqb byte 42))) ends in
@@ -230,14 +259,17 @@ symbol_alone bytes after is ends =
       | inl slashed ↦
           let first : slice_index text 0 ≡ 47 = begin_is (slice_index text 0) begins.Slash slashed in
           slash_whole bytes after is slashed (slash_alone bytes is (sym (same_first bytes after some) ∙ first)) (not-true _ both.1)
-      | inr other ↦ next_at text begins.Symbol (omega (arith, length-append bytes after)) other ∙ other_alone bytes after is (not-true _ more.0) (no_dot bytes after is (not-true _ more.1))
+      | inr other ↦ next_at text begins.Symbol (omega (arith, length-append bytes after)) other
+          ∙ other_alone bytes after is (not-true _ more.0) (no_dot bytes after is (not-true _ more.1))
     ]
 
 -- ---- all kinds
 
-pub alone_next : (kind : TokenKind) (bytes after : List ℕ) → Spells kind bytes → Ends kind bytes (slice_index after 0) → next (bytes ++ after) ≡ steps.Token kind (length bytes)
+pub alone_next : (kind : TokenKind) (bytes after : List ℕ) → Spells kind bytes → Ends kind bytes (slice_index after 0)
+    → next (bytes ++ after) ≡ steps.Token kind (length bytes)
 alone_next Plain bytes after spells ends = word_alone bytes after spells.0 ends ∙ ap (λ (r : Bool). steps.Token (cond r Reserved Plain) (length bytes)) spells.1
-alone_next Reserved bytes after spells ends = word_alone bytes after spells.0 ends ∙ ap (λ (r : Bool). steps.Token (cond r Reserved Plain) (length bytes)) spells.1
+alone_next Reserved bytes after spells ends =
+    word_alone bytes after spells.0 ends ∙ ap (λ (r : Bool). steps.Token (cond r Reserved Plain) (length bytes)) spells.1
 alone_next Quoted bytes after spells ends = name_whole bytes spells.0 after spells.1 spells.2
 alone_next Str bytes after spells ends = string_whole bytes spells.0 after spells.1
 alone_next Int bytes after spells ends = integer_alone bytes after spells ends

@@ -18,7 +18,8 @@ Tells byte begins.Number = is_ascii_digit byte ≡ true
 Tells byte begins.Name = byte ≡ 39
 Tells byte begins.String = byte ≡ 34
 Tells byte begins.Slash = byte ≡ 47
-Tells byte begins.Symbol = (is_space byte ≡ false) × (begins_word byte ≡ false) × (is_ascii_digit byte ≡ false) × (eqb byte 39 ≡ false) × (eqb byte 34 ≡ false) × (eqb byte 47 ≡ false)
+Tells byte begins.Symbol =
+    (is_space byte ≡ false) × (begins_word byte ≡ false) × (is_ascii_digit byte ≡ false) × (eqb byte 39 ≡ false) × (eqb byte 34 ≡ false) × (eqb byte 47 ≡ false)
 
 -- the same where the begin is known
 pub begin_is : (byte : ℕ) (begin : Begin) → begin_of byte ≡ begin → Tells byte begin

@@ -1,5 +1,6 @@
 -- White space and comments at the front of a text.
-use Rattle.std.proofs.Common.{◌≡◌, ℕ, suc, ◌+◌, Bool, true, false, cond, eqb, ◌&&◌, List, [], ◌∷◌, ◌++◌, length, take, drop, slice_index, Option, Some, None, refl, sym, ◌∙◌, ap, subst, inl, inr, arith, length-append, length-take-le, append_assoc, take-append-drop}
+use Rattle.std.proofs.Common.{◌≡◌, ℕ, suc, ◌+◌, Bool, true, false, cond, eqb, ◌&&◌, List, [], ◌∷◌, ◌++◌, length, take, drop, slice_index, Option, Some, None}
+use Rattle.std.proofs.Common.{refl, sym, ◌∙◌, ap, subst, inl, inr, arith, length-append, length-take-le, append_assoc, take-append-drop}
 use Rattle.std.proofs.lemmas.Bool.{cases_Bool, and_parts, and_right, or_parts, or_from, not-false, eqb-true}
 use Rattle.std.proofs.lemmas.List.Sums.{prefix_len-le-length}
 use Rattle.std.specs.List.{prefix_len}
@@ -34,7 +35,8 @@ comment_exact n [] after open_until = let e : n + 2 ≡ n + (0 + 2) = omega arit
 comment_exact n (byte ∷ inner) after open_until =
     let parts = or_parts (closes byte (inner ++ 42 ∷ [])) (has_close (inner ++ 42 ∷ [])) open_until in
     let e : n + 1 + (length inner + 2) ≡ n + (suc (length inner) + 2) = omega arith in
-    len_goes n byte (inner ++ 42 ∷ 47 ∷ after) (closes_before byte inner (47 ∷ after) ∙ parts.0) ∙ comment_exact (n + 1) inner after parts.1 ∙ ap (λ (m : ℕ). Some m) e
+    len_goes n byte (inner ++ 42 ∷ 47 ∷ after) (closes_before byte inner (47 ∷ after) ∙ parts.0) ∙ comment_exact (n + 1) inner after parts.1
+    ∙ ap (λ (m : ℕ). Some m) e
 
 pub record Closed (n : ℕ) (text : List ℕ) (end : ℕ) : Type 0 where
   inner : List ℕ
@@ -53,7 +55,8 @@ closed_here n byte bytes end is at =
     record {
       inner = [];
       after = drop 1 bytes;
-      text_is = ap (λ (x : ℕ). x ∷ bytes) (eqb-true byte 42 both.0) ∙ ap (λ (l : List ℕ). 42 ∷ l) (begins_with bytes 46 (eqb-true (slice_index bytes 0) 47 both.1));
+      text_is =
+          ap (λ (x : ℕ). x ∷ bytes) (eqb-true byte 42 both.0) ∙ ap (λ (l : List ℕ). 42 ∷ l) (begins_with bytes 46 (eqb-true (slice_index bytes 0) 47 both.1));
       open_until = refl;
       end_is = let e : n + 2 ≡ end = cc in omega arith;
     }
@@ -63,7 +66,9 @@ closed_later n byte bytes end isnt more = record {
   inner = byte ∷ more.inner;
   after = more.after;
   text_is = ap (λ (l : List ℕ). byte ∷ l) more.text_is;
-  open_until = or_from (closes byte (more.inner ++ 42 ∷ [])) _ (sym (closes_before byte more.inner (47 ∷ more.after)) ∙ ap (λ (l : List ℕ). closes byte l) (sym more.text_is) ∙ isnt) more.open_until;
+  open_until =
+      or_from (closes byte (more.inner ++ 42 ∷ [])) _ (sym (closes_before byte more.inner (47 ∷ more.after))
+      ∙ ap (λ (l : List ℕ). closes byte l) (sym more.text_is) ∙ isnt) more.open_until;
   end_is = omega (arith, more.end_is);
 }
 
@@ -147,7 +152,8 @@ by_second : (a b : ℕ) (text : List ℕ) (line block : Bool) → a ≡ 47 → e
 by_second a b text true block first is star = rw (first, eqb-true b 47 is) (line_reads text)
 by_second a b text false true first is star =
     let step : Step = comment_of (comment_len 0 text) in
-    subst (λ (x : ℕ). Stands (x ∷ b ∷ text) step) (sym first) (subst (λ (y : ℕ). Stands (47 ∷ y ∷ text) step) (sym (eqb-true b 42 star)) (block_reads text (comment_len 0 text) refl))
+    subst (λ (x : ℕ). Stands (x ∷ b ∷ text) step) (sym first)
+    (subst (λ (y : ℕ). Stands (47 ∷ y ∷ text) step) (sym (eqb-true b 42 star)) (block_reads text (comment_len 0 text) refl))
 by_second a b text false false first is star = slash_alone a (b ∷ text) first (and_right (eqb a 47) _ (or_from (eqb b 47) (eqb b 42) is star))
 
 pub slash_stands : (text : List ℕ) → slice_index text 0 ≡ 47 → Stands text (slash text)

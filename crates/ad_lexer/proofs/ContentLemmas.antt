@@ -1,5 +1,6 @@
 -- What a string or a quoted name means, letter by letter.
-use Rattle.std.proofs.Common.{◌≡◌, ℕ, zero, suc, ◌-◌, ◌<◌, Bool, true, false, cond, eqb, List, [], ◌∷◌, ◌++◌, length, map, drop, slice_index, is_some, refl, sym, ◌∙◌, ap, arith, length-append, append_assoc, inl, inr, take, subst}
+use Rattle.std.proofs.Common.{◌≡◌, ℕ, zero, suc, ◌-◌, ◌<◌, Bool, true, false, cond, eqb, List, [], ◌∷◌, ◌++◌, length, map, drop, slice_index, is_some, refl}
+use Rattle.std.proofs.Common.{sym, ◌∙◌, ap, arith, length-append, append_assoc, inl, inr, take, subst}
 use Rattle.std.proofs.lemmas.Bool.{cases_Bool, and_parts, or_parts, not-true, true≢false, eq-eqb}
 use Rattle.std.proofs.lemmas.Bool.Decides.{nat_tests}
 use Rattle.std.proofs.lemmas.List.{drop_at, take_at, append-nil}
@@ -38,10 +39,12 @@ drop_more zero byte bytes some = absurd (omega arith)
 drop_more (suc n) byte bytes some = let e : suc n - 1 ≡ n = omega arith in ap (λ (k : ℕ). drop k bytes) e
 
 -- a letter's meaning stands before that of the rest
-pub content_turn : (quote byte : ℕ) (bytes : List ℕ) → eqb byte quote ≡ false → content_from quote 0 (byte ∷ bytes) ≡ meaning_at (byte ∷ bytes) ∷ content_from quote 0 (drop (letter_len (byte ∷ bytes)) (byte ∷ bytes))
+pub content_turn : (quote byte : ℕ) (bytes : List ℕ) → eqb byte quote ≡ false
+    → content_from quote 0 (byte ∷ bytes) ≡ meaning_at (byte ∷ bytes) ∷ content_from quote 0 (drop (letter_len (byte ∷ bytes)) (byte ∷ bytes))
 content_turn quote byte bytes isnt =
     let n : ℕ = letter_len (byte ∷ bytes) in
-    let rest : content_from quote (n - 1) bytes ≡ content_from quote 0 (drop n (byte ∷ bytes)) = content-skip quote (n - 1) bytes ∙ ap (λ (l : List ℕ). content_from quote 0 l) (drop_more n byte bytes (letter_some (byte ∷ bytes))) in
+    let rest : content_from quote (n - 1) bytes ≡ content_from quote 0 (drop n (byte ∷ bytes)) =
+    content-skip quote (n - 1) bytes ∙ ap (λ (l : List ℕ). content_from quote 0 l) (drop_more n byte bytes (letter_some (byte ∷ bytes))) in
     rw isnt (ap (λ (l : List ℕ). meaning_at (byte ∷ bytes) ∷ l) rest)
 
 pub content_stop : (quote : ℕ) (bytes : List ℕ) → content_from quote 0 (quote ∷ bytes) ≡ []
@@ -60,7 +63,8 @@ letter_meaning quote (octal digits) after is =
     let told = digits_told digits after (octal_digits digits after is) in
     rw (octal_unescaped _ told.first) told.value
 
-pub letter_length : (quote : ℕ) (letter : Letter) (after : List ℕ) → IsLetter quote letter after → letter_len (spelling letter ++ after) ≡ length (spelling letter)
+pub letter_length : (quote : ℕ) (letter : Letter) (after : List ℕ) → IsLetter quote letter after
+    → letter_len (spelling letter ++ after) ≡ length (spelling letter)
 unfolding letter_len
 letter_length quote (plain byte) after is = rw (plain_isnt quote byte is) refl
 letter_length quote (escape byte meant) after is = ap (λ o. cond (is_some o) 2 (octal_len (slice_index after 0) (slice_index after 1))) is
@@ -70,11 +74,13 @@ letter_length quote (octal digits) after is =
 
 -- ---- letters mean their content
 
-begins_other : (quote : ℕ) (bytes : List ℕ) → 0 < length bytes → eqb (slice_index bytes 0) quote ≡ false → content_from quote 0 bytes ≡ meaning_at bytes ∷ content_from quote 0 (drop (letter_len bytes) bytes)
+begins_other : (quote : ℕ) (bytes : List ℕ) → 0 < length bytes → eqb (slice_index bytes 0) quote ≡ false
+    → content_from quote 0 bytes ≡ meaning_at bytes ∷ content_from quote 0 (drop (letter_len bytes) bytes)
 begins_other quote [] some isnt = absurd (omega arith)
 begins_other quote (byte ∷ bytes) some isnt = content_turn quote byte bytes isnt
 
-pub letters_content : (quote : ℕ) (letters : List Letter) (after : List ℕ) → is_quote quote ≡ true → AreLetters quote letters (quote ∷ after) → content_from quote 0 (spellings letters ++ quote ∷ after) ≡ map meaning letters
+pub letters_content : (quote : ℕ) (letters : List Letter) (after : List ℕ) → is_quote quote ≡ true → AreLetters quote letters (quote ∷ after)
+    → content_from quote 0 (spellings letters ++ quote ∷ after) ≡ map meaning letters
 letters_content quote [] after is are = content_stop quote after
 letters_content quote (letter ∷ letters) after is are =
     let first : List ℕ = spelling letter in
@@ -119,13 +125,15 @@ unread_first bytes quotation =
     })
 
 -- a letter is read
-pub unread_turn : (quote : ℕ) (bytes text rest : List ℕ) (letters : List Letter) (len meant : ℕ) → is_quote quote ≡ true → rest ≡ spellings letters ++ quote ∷ [] → AreLetters quote letters (quote ∷ [])
+pub unread_turn : (quote : ℕ) (bytes text rest : List ℕ) (letters : List Letter) (len meant : ℕ) → is_quote quote ≡ true
+    → rest ≡ spellings letters ++ quote ∷ [] → AreLetters quote letters (quote ∷ [])
     → text ++ map meaning letters ≡ content bytes → fronts.Letter len meant ≡ front quote rest → Unread quote bytes (text ++ meant ∷ []) (drop len rest)
 unread_turn quote bytes text rest [] len meant is spelled are means reads = absurd (cc (reads ∙ ap (front quote) spelled ∙ front_close quote []))
 unread_turn quote bytes text rest (letter ∷ letters) len meant is spelled are means reads =
     let more : List ℕ = spellings letters ++ quote ∷ [] in
     let joined : rest ≡ spelling letter ++ more = spelled ∙ append_assoc (spelling letter) (spellings letters) (quote ∷ []) in
-    let same : fronts.Letter len meant ≡ fronts.Letter (length (spelling letter)) (meaning letter) = reads ∙ ap (front quote) joined ∙ letter_met quote letter more is are.0 in
+    let same : fronts.Letter len meant ≡ fronts.Letter (length (spelling letter)) (meaning letter) =
+    reads ∙ ap (front quote) joined ∙ letter_met quote letter more is are.0 in
     let long : length (spelling letter) ≡ len = cc in
     let meaning_is : meant ≡ meaning letter = cc in
     record {
@@ -137,19 +145,24 @@ unread_turn quote bytes text rest (letter ∷ letters) len meant is spelled are 
     }
 
 -- bytes that stand for themselves are read at once
-pub unread_run : (quote : ℕ) (bytes text rest : List ℕ) → Unread quote bytes text rest → Unread quote bytes (text ++ take (prefix_len (is_in class.Plain) rest) rest) (drop (prefix_len (is_in class.Plain) rest) rest)
+pub unread_run : (quote : ℕ) (bytes text rest : List ℕ) → Unread quote bytes text rest
+    → Unread quote bytes (text ++ take (prefix_len (is_in class.Plain) rest) rest) (drop (prefix_len (is_in class.Plain) rest) rest)
 unread_run quote bytes text [] u = subst (λ t. Unread quote bytes t []) (sym (append-nil text)) u
 unread_run quote bytes text (byte ∷ more) u =
     let p = is_in class.Plain in
     elim (cases_Bool (p byte)) [
       | inl stands ↦
-          let read = unread_turn quote bytes text (byte ∷ more) u.letters 1 byte u.quotes u.spelled u.are u.means (sym (plain_met quote byte more (plain_in quote byte u.quotes stands))) in
-          rw (run_step p byte more stands) (subst (λ t. Unread quote bytes t (drop (prefix_len p more) more)) (append_assoc text (byte ∷ []) (take (prefix_len p more) more)) (unread_run quote bytes (text ++ byte ∷ []) more read))
+          let read =
+          unread_turn quote bytes text (byte ∷ more) u.letters 1 byte u.quotes u.spelled u.are u.means
+          (sym (plain_met quote byte more (plain_in quote byte u.quotes stands))) in
+          rw (run_step p byte more stands) (subst (λ t. Unread quote bytes t (drop (prefix_len p more) more))
+          (append_assoc text (byte ∷ []) (take (prefix_len p more) more)) (unread_run quote bytes (text ++ byte ∷ []) more read))
       | inr other ↦ rw (run_stop p byte more other) (subst (λ t. Unread quote bytes t (byte ∷ more)) (sym (append-nil text)) u)
     ]
 
 -- where no letter is left the text is the content
-pub unread_end : (quote : ℕ) (bytes text rest : List ℕ) (letters : List Letter) → is_quote quote ≡ true → rest ≡ spellings letters ++ quote ∷ [] → AreLetters quote letters (quote ∷ [])
+pub unread_end : (quote : ℕ) (bytes text rest : List ℕ) (letters : List Letter) → is_quote quote ≡ true → rest ≡ spellings letters ++ quote ∷ []
+    → AreLetters quote letters (quote ∷ [])
     → text ++ map meaning letters ≡ content bytes → ((len meant : ℕ) → front quote rest ≡ fronts.Letter len meant → ⊥) → text ≡ content bytes
 unread_end quote bytes text rest [] is spelled are means none = sym (append-nil text) ∙ means
 unread_end quote bytes text rest (letter ∷ letters) is spelled are means none =
@@ -170,13 +183,15 @@ plain_letters (letter ∷ letters) each =
     ap (λ (l : List ℕ). l ++ spellings letters) (plain_letter letter both.0) ∙ ap (λ (l : List ℕ). meaning letter ∷ l) (plain_letters letters both.1)
 
 -- where the first run of letters ends at the closing quote, that is all
-pub one_run : (bytes more text : List ℕ) → IsQuotation bytes → text ≡ drop 1 (bytes ++ more) → prefix_len (is_in class.Plain) text ≡ length bytes - 2 → take (length bytes - 2) text ≡ content bytes
+pub one_run : (bytes more text : List ℕ) → IsQuotation bytes → text ≡ drop 1 (bytes ++ more) → prefix_len (is_in class.Plain) text ≡ length bytes - 2
+    → take (length bytes - 2) text ≡ content bytes
 one_run bytes more text quotation behind run =
     let q = quotation_quote bytes quotation in
     let letters : List ℕ = spellings q.3.0 in
     let stands : text ≡ letters ++ q.0 ∷ more = behind ∙ ap (λ (l : List ℕ). drop 1 (l ++ more)) q.3.1 ∙ append_assoc letters (q.0 ∷ []) more in
     let len : length letters ≡ length bytes - 2 = omega (arith, ap (λ (l : List ℕ). length l) q.3.1, length-append letters (q.0 ∷ [])) in
-    let front : take (length bytes - 2) text ≡ letters = ap (λ (l : List ℕ). take (length bytes - 2) l) stands ∙ take_at letters (q.0 ∷ more) (length bytes - 2) len in
+    let front : take (length bytes - 2) text ≡ letters =
+    ap (λ (l : List ℕ). take (length bytes - 2) l) stands ∙ take_at letters (q.0 ∷ more) (length bytes - 2) len in
     let each = subst (λ (l : List ℕ). list_all (is_in class.Plain) l ≡ true) (ap (λ (n : ℕ). take n text) run ∙ front) (run_passes (is_in class.Plain) text) in
     front ∙ plain_letters q.3.0 each ∙ sym q.3.3 ∙ sym (quoted_content q.0 bytes q.1 q.2 q.3)
 

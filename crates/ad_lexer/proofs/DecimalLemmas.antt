@@ -1,5 +1,6 @@
 -- Numbers of few digits are integers, and the decimal text of a number below 2^63 spells it.
-use Rattle.std.proofs.Common.{◌≡◌, ℕ, zero, suc, decimal, ◌+◌, ◌^◌, ◌<◌, ◌≤◌, Bool, true, false, cond, eqb, ltb, List, [], ◌∷◌, length, take, slice_index, refl, sym, ◌∙◌, subst, arith, length-take-le, get_or-take}
+use Rattle.std.proofs.Common.{◌≡◌, ℕ, zero, suc, decimal, ◌+◌, ◌^◌, ◌<◌, ◌≤◌, Bool, true, false, cond, eqb, ltb, List, [], ◌∷◌, length, take, slice_index, refl}
+use Rattle.std.proofs.Common.{sym, ◌∙◌, subst, arith, length-take-le, get_or-take}
 use Rattle.std.proofs.Math.Nat.{pow-le-pow_right}
 use Rattle.std.proofs.lemmas.Bool.{and_from, and_parts, lt-ltb}
 use Rattle.std.proofs.lemmas.Bool.Decides.{nat_tests}
@@ -17,7 +18,8 @@ digits_pass [] each = refl
 digits_pass (c ∷ ds) each = and_from (is_digit c 10) _ (lt-ltb _ 10 each.0) (digits_pass ds each.1)
 
 -- digits that begin with no 0 are an integer of base ten
-decimal_by : (ds : List ℕ) (n : ℕ) → 48 < slice_index ds 0 → (0 < length ds) × AllDigits 10 ds → digits_value 10 ds ≡ n → n < 2 ^ 63 → (is_integer ds ≡ true) × (value ds ≡ n)
+decimal_by : (ds : List ℕ) (n : ℕ) → 48 < slice_index ds 0 → (0 < length ds) × AllDigits 10 ds → digits_value 10 ds ≡ n → n < 2 ^ 63
+    → (is_integer ds ≡ true) × (value ds ≡ n)
 decimal_by ds n first numeral is fits =
     let other : eqb (slice_index ds 0) 48 ≡ false = grind (arith, nat_tests) in
     let some : ltb 0 (length ds) ≡ true = lt-ltb 0 (length ds) numeral.0 in
@@ -38,10 +40,12 @@ plain_len true fraction a b c isnt whole = absurd (cc)
 plain_len false true a b c isnt whole = absurd (cc)
 
 -- a number of at most 18 decimal digits, of which the first isn't 0, is an integer
-pub short_integer : (text : List ℕ) (len : ℕ) → len ≡ number_len text → has_fraction text ≡ false → 0 < len → len ≤ 18 → 48 < slice_index text 0 → is_integer (take len text) ≡ true
+pub short_integer : (text : List ℕ) (len : ℕ) → len ≡ number_len text → has_fraction text ≡ false → 0 < len → len ≤ 18 → 48 < slice_index text 0
+    → is_integer (take len text) ≡ true
 short_integer text len number integer some short first =
     let isnt : is_hexadecimal text ≡ false = grind (arith, nat_tests) in
-    let run : len ≡ prefix_len is_ascii_digit text = number ∙ plain_len (is_hexadecimal text) (has_fraction text) _ _ (prefix_len is_ascii_digit text) isnt integer in
+    let run : len ≡ prefix_len is_ascii_digit text =
+    number ∙ plain_len (is_hexadecimal text) (has_fraction text) _ _ (prefix_len is_ascii_digit text) isnt integer in
     let ds : List ℕ = take len text in
     let each : AllDigits 10 ds = all_digits ds (subst (λ n. list_all is_ascii_digit (take n text) ≡ true) (sym run) (run_passes is_ascii_digit text)) in
     let long : length ds ≡ len = length-take-le len text (omega (arith, prefix_len-le-length is_ascii_digit text)) in
@@ -61,7 +65,8 @@ hexadecimal_digits (c ∷ ds) each =
     let more = hexadecimal_digits ds both.1 in
     ((below, more.0), and_from (is_digit c 16) _ (lt-ltb _ 16 below) more.1)
 
-hexadecimal_by : (a b n : ℕ) (rest : List ℕ) → is_hexadecimal (a ∷ b ∷ rest) ≡ true → n ≡ prefix_len is_ascii_hexdigit rest → 0 < n → n ≤ 15 → is_integer (take (suc (suc n)) (a ∷ b ∷ rest)) ≡ true
+hexadecimal_by : (a b n : ℕ) (rest : List ℕ) → is_hexadecimal (a ∷ b ∷ rest) ≡ true → n ≡ prefix_len is_ascii_hexdigit rest → 0 < n → n ≤ 15
+    → is_integer (take (suc (suc n)) (a ∷ b ∷ rest)) ≡ true
 hexadecimal_by a b n rest is run some short =
     let ds : List ℕ = take n rest in
     let each = hexadecimal_digits ds (subst (λ n. list_all is_ascii_hexdigit (take n rest) ≡ true) (sym run) (run_passes is_ascii_hexdigit rest)) in

@@ -1,5 +1,6 @@
 -- Decimals: digits, a dot and digits.
-use Rattle.std.proofs.Common.{◌≡◌, ℕ, ◌+◌, ◌^◌, ◌<◌, ◌≤◌, Bool, true, false, cond, eqb, ltb, not, ◌&&◌, List, [], ◌∷◌, ◌++◌, length, take, drop, slice_index, refl, sym, ◌∙◌, ap, arith, length-append, length-drop, length-take-le, append_assoc, append-nil}
+use Rattle.std.proofs.Common.{◌≡◌, ℕ, ◌+◌, ◌^◌, ◌<◌, ◌≤◌, Bool, true, false, cond, eqb, ltb, not, ◌&&◌, List, [], ◌∷◌, ◌++◌, length, take, drop, slice_index}
+use Rattle.std.proofs.Common.{refl, sym, ◌∙◌, ap, arith, length-append, length-drop, length-take-le, append_assoc, append-nil}
 use Rattle.std.proofs.lemmas.Bool.{and_parts, and_from, and_left, and_right, not_from_false, not_from_true, eqb-true, lt-ltb, ltb-true, true≢false}
 use Rattle.std.proofs.lemmas.Bool.Decides.{nat_tests}
 use Rattle.std.proofs.lemmas.List.{take_at, drop_at, drop-drop, get_or-drop, take-append-drop}
@@ -7,7 +8,8 @@ use Rattle.std.proofs.lemmas.List.Folds.{list_all-append}
 use Rattle.std.proofs.lemmas.List.Sums.{prefix_len-le-length}
 use Rattle.std.specs.Char.{is_ascii, is_ascii_digit, digit_value}
 use Rattle.std.specs.List.{list_all}
-use Rattle.ad_lexer.specs.Numbers.{digits_len, fraction_digits, has_fraction, is_decimal_number, is_dotted, is_hexadecimal, millionths, number_len, whole_digits}
+use Rattle.ad_lexer.specs.Numbers.{digits_len, fraction_digits, has_fraction, is_decimal_number, is_dotted, is_hexadecimal, millionths, number_len}
+use Rattle.ad_lexer.specs.Numbers.{whole_digits}
 use Rattle.ad_lexer.proofs.Runs.{run_step, run_passes, run_reaches, run_exact, all_weaker}
 
 pub digit_small : (c : ℕ) → digit_value c ≤ 36
@@ -23,7 +25,8 @@ at_behind (byte ∷ bytes) after = at_behind bytes after
 -- what stands behind the dot
 behind_dot : (whole more : List ℕ) → drop (length whole + 1) (whole ++ 46 ∷ more) ≡ more
 behind_dot whole more =
-    ap (λ (l : List ℕ). drop (length whole + 1) l) (sym (append_assoc whole (46 ∷ []) more)) ∙ drop_at (whole ++ 46 ∷ []) more (length whole + 1) (omega (arith, length-append whole (46 ∷ [])))
+    ap (λ (l : List ℕ). drop (length whole + 1) l) (sym (append_assoc whole (46 ∷ []) more))
+    ∙ drop_at (whole ++ 46 ∷ []) more (length whole + 1) (omega (arith, length-append whole (46 ∷ [])))
 
 -- a byte is the first behind those before it
 first_behind : (n : ℕ) (text : List ℕ) → slice_index (drop n text) 0 ≡ slice_index text n
@@ -40,13 +43,16 @@ dot_isnt (a ∷ b ∷ whole) more each =
     grind (arith, nat_tests)
 
 -- a digit behind the dot
-dot_fraction : (whole more : List ℕ) → list_all is_ascii_digit whole ≡ true → is_ascii_digit (slice_index more 0) ≡ true → has_fraction (whole ++ 46 ∷ more) ≡ true
+dot_fraction : (whole more : List ℕ) → list_all is_ascii_digit whole ≡ true → is_ascii_digit (slice_index more 0) ≡ true
+    → has_fraction (whole ++ 46 ∷ more) ≡ true
 dot_fraction whole more each begins =
     let text : List ℕ = whole ++ 46 ∷ more in
     let len : digits_len text ≡ length whole = dot_len whole more each in
-    let dot : eqb (slice_index text (digits_len text)) 46 ≡ true = ap (λ (n : ℕ). eqb (slice_index text n) 46) len ∙ ap (λ (b : ℕ). eqb b 46) (at_behind whole (46 ∷ more)) in
+    let dot : eqb (slice_index text (digits_len text)) 46 ≡ true =
+    ap (λ (n : ℕ). eqb (slice_index text n) 46) len ∙ ap (λ (b : ℕ). eqb b 46) (at_behind whole (46 ∷ more)) in
     let digit : is_ascii_digit (slice_index text (digits_len text + 1)) ≡ true =
-    ap (λ (n : ℕ). is_ascii_digit (slice_index text (n + 1))) len ∙ ap is_ascii_digit (sym (first_behind (length whole + 1) text)) ∙ ap (λ (l : List ℕ). is_ascii_digit (slice_index l 0)) (behind_dot whole more) ∙ begins in
+    ap (λ (n : ℕ). is_ascii_digit (slice_index text (n + 1))) len ∙ ap is_ascii_digit (sym (first_behind (length whole + 1) text))
+    ∙ ap (λ (l : List ℕ). is_ascii_digit (slice_index l 0)) (behind_dot whole more) ∙ begins in
     and_from (not (is_hexadecimal text)) _ (not_from_false (is_hexadecimal text) (dot_isnt whole more each)) (and_from _ _ dot digit)
 
 len_by : (hexadecimal fraction : Bool) (a b c n : ℕ) → hexadecimal ≡ false → fraction ≡ true → b ≡ n → cond hexadecimal a (cond fraction b c) ≡ n
@@ -54,11 +60,14 @@ len_by false true a b c n isnt is e = e
 len_by true fraction a b c n isnt is e = absurd (true≢false isnt)
 len_by false false a b c n isnt is e = absurd (true≢false (sym is))
 
-fraction_len : (whole more : List ℕ) → list_all is_ascii_digit whole ≡ true → is_ascii_digit (slice_index more 0) ≡ true → number_len (whole ++ 46 ∷ more) ≡ length whole + 1 + digits_len more
+fraction_len : (whole more : List ℕ) → list_all is_ascii_digit whole ≡ true → is_ascii_digit (slice_index more 0) ≡ true
+    → number_len (whole ++ 46 ∷ more) ≡ length whole + 1 + digits_len more
 fraction_len whole more each begins =
     let text : List ℕ = whole ++ 46 ∷ more in
-    len_by (is_hexadecimal text) (has_fraction text) _ (digits_len text + 1 + digits_len (drop (digits_len text + 1) text)) (digits_len text) (length whole + 1 + digits_len more) (dot_isnt whole more each) (dot_fraction whole more each begins)
-    (ap (λ (n : ℕ). n + 1 + digits_len (drop (n + 1) text)) (dot_len whole more each) ∙ ap (λ (l : List ℕ). length whole + 1 + digits_len l) (behind_dot whole more))
+    len_by (is_hexadecimal text) (has_fraction text) _ (digits_len text + 1 + digits_len (drop (digits_len text + 1) text)) (digits_len text)
+    (length whole + 1 + digits_len more) (dot_isnt whole more each) (dot_fraction whole more each begins)
+    (ap (λ (n : ℕ). n + 1 + digits_len (drop (n + 1) text)) (dot_len whole more each)
+    ∙ ap (λ (l : List ℕ). length whole + 1 + digits_len l) (behind_dot whole more))
 
 -- ---- a text with a dot behind its digits is divided there
 
@@ -83,15 +92,18 @@ digits_begin : (digits after : List ℕ) → 0 < length digits → list_all is_a
 digits_begin [] after some each = absurd (omega arith)
 digits_begin (d ∷ digits) after some each = (and_parts (is_ascii_digit d) _ each).0
 
-pub dotted_is : (whole fraction : List ℕ) → 0 < length whole → list_all is_ascii_digit whole ≡ true → 0 < length fraction → list_all is_ascii_digit fraction ≡ true
+pub dotted_is : (whole fraction : List ℕ) → 0 < length whole → list_all is_ascii_digit whole ≡ true → 0 < length fraction
+    → list_all is_ascii_digit fraction ≡ true
     → (is_dotted (whole ++ 46 ∷ fraction) ≡ true) × (whole_digits (whole ++ 46 ∷ fraction) ≡ whole) × (fraction_digits (whole ++ 46 ∷ fraction) ≡ fraction)
 dotted_is whole fraction whole_some whole_each some each =
     let bytes : List ℕ = whole ++ 46 ∷ fraction in
     let len : digits_len bytes ≡ length whole = dot_len whole fraction whole_each in
     let behind : fraction_digits bytes ≡ fraction = ap (λ (n : ℕ). drop (n + 1) bytes) len ∙ behind_dot whole fraction in
-    let dot : eqb (slice_index bytes (digits_len bytes)) 46 ≡ true = ap (λ (n : ℕ). eqb (slice_index bytes n) 46) len ∙ ap (λ (b : ℕ). eqb b 46) (at_behind whole (46 ∷ fraction)) in
+    let dot : eqb (slice_index bytes (digits_len bytes)) 46 ≡ true =
+    ap (λ (n : ℕ). eqb (slice_index bytes n) 46) len ∙ ap (λ (b : ℕ). eqb b 46) (at_behind whole (46 ∷ fraction)) in
     let first : ltb 0 (digits_len bytes) ≡ true = lt-ltb 0 (digits_len bytes) (omega (arith, len)) in
-    let more : ltb 0 (length (fraction_digits bytes)) ≡ true = lt-ltb 0 (length (fraction_digits bytes)) (omega (arith, ap (λ (l : List ℕ). length l) behind)) in (
+    let more : ltb 0 (length (fraction_digits bytes)) ≡ true =
+    lt-ltb 0 (length (fraction_digits bytes)) (omega (arith, ap (λ (l : List ℕ). length l) behind)) in (
       and_from _ _ (and_from _ _ first dot) (and_from _ _ more (ap (λ (l : List ℕ). list_all is_ascii_digit l) behind ∙ each)),
       ap (λ (n : ℕ). take n bytes) len ∙ take_at whole (46 ∷ fraction) (length whole) refl,
       behind,
@@ -126,7 +138,8 @@ pub dotted_within : (bytes : List ℕ) → is_dotted bytes ≡ true → digits_l
 dotted_within bytes is =
     let some = (dotted_parts bytes is).some in
     let n : ℕ = digits_len bytes in
-    let behind : 0 < length (drop (n + 1) bytes) = ltb-true 0 _ (and_parts (ltb 0 (length (fraction_digits bytes))) _ (and_parts (ltb 0 n && eqb (slice_index bytes n) 46) _ is).1).0 in
+    let behind : 0 < length (drop (n + 1) bytes) =
+    ltb-true 0 _ (and_parts (ltb 0 (length (fraction_digits bytes))) _ (and_parts (ltb 0 n && eqb (slice_index bytes n) 46) _ is).1).0 in
     omega (arith, behind, length-drop (n + 1) bytes)
 
 decimal_parts : (bytes : List ℕ) → is_decimal_number bytes ≡ true → DecimalParts bytes
@@ -149,10 +162,13 @@ parts_len bytes parts = omega (arith, ap (λ (l : List ℕ). length l) parts.byt
 pub decimal_fraction : (bytes after : List ℕ) → is_decimal_number bytes ≡ true → has_fraction (bytes ++ after) ≡ true
 decimal_fraction bytes after is =
     let parts = decimal_parts bytes is in
-    ap has_fraction (joined bytes after parts) ∙ dot_fraction parts.whole (parts.fraction ++ after) parts.whole_each (digits_begin parts.fraction after parts.some parts.each)
+    ap has_fraction (joined bytes after parts) ∙ dot_fraction parts.whole (parts.fraction
+    ++ after) parts.whole_each (digits_begin parts.fraction after parts.some parts.each)
 
 decimal_len : (bytes after : List ℕ) (parts : DecimalParts bytes) → number_len (bytes ++ after) ≡ length parts.whole + 1 + digits_len (parts.fraction ++ after)
-decimal_len bytes after parts = ap number_len (joined bytes after parts) ∙ fraction_len parts.whole (parts.fraction ++ after) parts.whole_each (digits_begin parts.fraction after parts.some parts.each)
+decimal_len bytes after parts =
+    ap number_len (joined bytes after parts) ∙ fraction_len parts.whole (parts.fraction
+    ++ after) parts.whole_each (digits_begin parts.fraction after parts.some parts.each)
 
 -- it is no longer than the number that stands first
 pub decimal_reaches : (bytes after : List ℕ) → is_decimal_number bytes ≡ true → length bytes ≤ number_len (bytes ++ after)
@@ -161,7 +177,8 @@ decimal_reaches bytes after is =
     omega (arith, decimal_len bytes after parts, run_reaches is_ascii_digit parts.fraction after parts.each, parts_len bytes parts)
 
 -- and it is that number where no digit follows
-pub decimal_exact : (bytes after : List ℕ) → is_decimal_number bytes ≡ true → is_ascii_digit (slice_index after 0) ≡ false → number_len (bytes ++ after) ≡ length bytes
+pub decimal_exact : (bytes after : List ℕ) → is_decimal_number bytes ≡ true → is_ascii_digit (slice_index after 0) ≡ false
+    → number_len (bytes ++ after) ≡ length bytes
 decimal_exact bytes after is ends =
     let parts = decimal_parts bytes is in
     omega (arith, decimal_len bytes after parts, run_exact is_ascii_digit parts.fraction after parts.each (λ some. ends), parts_len bytes parts)
@@ -169,7 +186,8 @@ decimal_exact bytes after is ends =
 pub decimal_begins : (bytes after : List ℕ) → is_decimal_number bytes ≡ true → is_ascii_digit (slice_index (bytes ++ after) 0) ≡ true
 decimal_begins bytes after is =
     let parts = decimal_parts bytes is in
-    ap (λ (l : List ℕ). is_ascii_digit (slice_index l 0)) (joined bytes after parts) ∙ digits_begin parts.whole (46 ∷ (parts.fraction ++ after)) parts.whole_some parts.whole_each
+    ap (λ (l : List ℕ). is_ascii_digit (slice_index l 0)) (joined bytes after parts)
+    ∙ digits_begin parts.whole (46 ∷ (parts.fraction ++ after)) parts.whole_some parts.whole_each
 
 pub decimal_nonempty : (bytes : List ℕ) → is_decimal_number bytes ≡ true → 0 < length bytes
 decimal_nonempty bytes is = omega (arith, decimal_within bytes is)
@@ -180,16 +198,19 @@ digits_ascii bytes each = all_weaker is_ascii_digit is_ascii (λ c low. grind (a
 pub decimal_ascii : (bytes : List ℕ) → is_decimal_number bytes ≡ true → list_all is_ascii bytes ≡ true
 decimal_ascii bytes is =
     let parts = decimal_parts bytes is in
-    ap (λ (l : List ℕ). list_all is_ascii l) parts.bytes_is ∙ list_all-append is_ascii parts.whole (46 ∷ parts.fraction) ∙ and_from _ _ (digits_ascii parts.whole parts.whole_each) (digits_ascii parts.fraction parts.each)
+    ap (λ (l : List ℕ). list_all is_ascii l) parts.bytes_is ∙ list_all-append is_ascii parts.whole (46 ∷ parts.fraction)
+    ∙ and_from _ _ (digits_ascii parts.whole parts.whole_each) (digits_ascii parts.fraction parts.each)
 
 -- ---- a number that is no decimal
 
 -- digits before another byte than a dot
-pub digits_plain : (bytes after : List ℕ) → list_all is_ascii_digit bytes ≡ true → is_ascii_digit (slice_index after 0) ≡ false → eqb (slice_index after 0) 46 ≡ false → has_fraction (bytes ++ after) ≡ false
+pub digits_plain : (bytes after : List ℕ) → list_all is_ascii_digit bytes ≡ true → is_ascii_digit (slice_index after 0) ≡ false
+    → eqb (slice_index after 0) 46 ≡ false → has_fraction (bytes ++ after) ≡ false
 digits_plain bytes after each ends no_dot =
     let text : List ℕ = bytes ++ after in
     let len : digits_len text ≡ length bytes = run_exact is_ascii_digit bytes after each (λ some. ends) in
-    let isnt : eqb (slice_index text (digits_len text)) 46 ≡ false = ap (λ (n : ℕ). eqb (slice_index text n) 46) len ∙ ap (λ (b : ℕ). eqb b 46) (at_behind bytes after) ∙ no_dot in
+    let isnt : eqb (slice_index text (digits_len text)) 46 ≡ false =
+    ap (λ (n : ℕ). eqb (slice_index text n) 46) len ∙ ap (λ (b : ℕ). eqb b 46) (at_behind bytes after) ∙ no_dot in
     and_right (not (is_hexadecimal text)) _ (and_left _ _ isnt)
 
 pub digits_whole : (bytes : List ℕ) → list_all is_ascii_digit bytes ≡ true → has_fraction bytes ≡ false
@@ -208,7 +229,8 @@ some_whole : (whole more : List ℕ) → is_ascii_digit (slice_index (whole ++ 4
 some_whole [] more is = absurd (true≢false (sym is))
 some_whole (d ∷ whole) more is = omega arith
 
-front_dotted : (whole more : List ℕ) → list_all is_ascii_digit whole ≡ true → is_ascii_digit (slice_index more 0) ≡ true → is_ascii_digit (slice_index (whole ++ 46 ∷ more) 0) ≡ true
+front_dotted : (whole more : List ℕ) → list_all is_ascii_digit whole ≡ true → is_ascii_digit (slice_index more 0) ≡ true
+    → is_ascii_digit (slice_index (whole ++ 46 ∷ more) 0) ≡ true
     → is_dotted (take (number_len (whole ++ 46 ∷ more)) (whole ++ 46 ∷ more)) ≡ true
 front_dotted whole more each begins digit =
     let n : ℕ = digits_len more in
@@ -218,7 +240,8 @@ front_dotted whole more each begins digit =
     let ends : length (whole ++ 46 ∷ run) ≡ number_len text = omega (arith, fraction_len whole more each begins, long, length-append whole (46 ∷ run)) in
     let cut : text ≡ (whole ++ 46 ∷ run) ++ drop n more =
     ap (λ (l : List ℕ). whole ++ 46 ∷ l) (sym (take-append-drop n more)) ∙ sym (append_assoc whole (46 ∷ run) (drop n more)) in
-    let front : take (number_len text) text ≡ whole ++ 46 ∷ run = ap (λ (l : List ℕ). take (number_len text) l) cut ∙ take_at (whole ++ 46 ∷ run) (drop n more) (number_len text) ends in
+    let front : take (number_len text) text ≡ whole ++ 46 ∷ run =
+    ap (λ (l : List ℕ). take (number_len text) l) cut ∙ take_at (whole ++ 46 ∷ run) (drop n more) (number_len text) ends in
     ap is_dotted front ∙ (dotted_is whole run (some_whole whole more digit) each (omega (arith, some_run more begins, long)) (run_passes is_ascii_digit more)).0
 
 pub fraction_dotted : (text : List ℕ) → is_ascii_digit (slice_index text 0) ≡ true → has_fraction text ≡ true → is_dotted (take (number_len text) text) ≡ true

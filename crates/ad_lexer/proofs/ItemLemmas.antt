@@ -1,5 +1,6 @@
 -- An item stands at the front of a text exactly where it is read there.
-use Rattle.std.proofs.Common.{◌≡◌, ◌⊎◌, ℕ, zero, suc, ◌<◌, ◌≤◌, Bool, true, false, cond, eqb, leb, not, ◌||◌, List, [], ◌∷◌, ◌++◌, length, take, drop, slice_index, refl, sym, ◌∙◌, ap, subst, inl, inr, arith, length-append, append-nil, append_assoc}
+use Rattle.std.proofs.Common.{◌≡◌, ◌⊎◌, ℕ, zero, suc, ◌<◌, ◌≤◌, Bool, true, false, cond, eqb, leb, not, ◌||◌, List, [], ◌∷◌, ◌++◌, length, take, drop}
+use Rattle.std.proofs.Common.{slice_index, refl, sym, ◌∙◌, ap, subst, inl, inr, arith, length-append, append-nil, append_assoc}
 use Rattle.std.proofs.lemmas.Bool.{or_parts, not-true, true≢false}
 use Rattle.std.proofs.lemmas.Bool.Decides.{nat_tests}
 use Rattle.std.proofs.lemmas.List.{take_at, length-map}
@@ -42,7 +43,8 @@ BeginsBy Int begin = begin ≡ begins.Number
 BeginsBy Dec begin = begin ≡ begins.Number
 BeginsBy Symbol begin = (begin ≡ begins.Slash) ⊎ (begin ≡ begins.Symbol)
 
-by_slash : (byte : ℕ) (is : Bool) → eqb byte 47 ≡ is → (cond is begins.Slash begins.Symbol ≡ begins.Slash) ⊎ (cond is begins.Slash begins.Symbol ≡ begins.Symbol)
+by_slash : (byte : ℕ) (is : Bool) → eqb byte 47 ≡ is
+    → (cond is begins.Slash begins.Symbol ≡ begins.Slash) ⊎ (cond is begins.Slash begins.Symbol ≡ begins.Symbol)
 by_slash byte true e = inl refl
 by_slash byte false e = inr refl
 
@@ -96,14 +98,24 @@ kind_of begins.Symbol reserved decimal = Symbol
 decimal_whole : (bytes : List ℕ) → is_decimal_number bytes ≡ true → has_fraction bytes ≡ true
 decimal_whole bytes is = ap has_fraction (sym (append-nil bytes)) ∙ decimal_fraction bytes [] is
 
-kind_is : (kind : TokenKind) (begin : Begin) (bytes : List ℕ) → BeginsBy kind begin → Spells kind bytes → kind_of begin (is_reserved bytes) (has_fraction bytes) ≡ kind
-kind_is Plain begin bytes by spells = ap (λ b. kind_of b (is_reserved bytes) (has_fraction bytes)) by ∙ ap (λ r. kind_of begins.Word r (has_fraction bytes)) spells.1
-kind_is Reserved begin bytes by spells = ap (λ b. kind_of b (is_reserved bytes) (has_fraction bytes)) by ∙ ap (λ r. kind_of begins.Word r (has_fraction bytes)) spells.1
+kind_is : (kind : TokenKind) (begin : Begin) (bytes : List ℕ) → BeginsBy kind begin → Spells kind bytes
+    → kind_of begin (is_reserved bytes) (has_fraction bytes) ≡ kind
+kind_is Plain begin bytes by spells =
+    ap (λ b. kind_of b (is_reserved bytes) (has_fraction bytes)) by ∙ ap (λ r. kind_of begins.Word r (has_fraction bytes)) spells.1
+kind_is Reserved begin bytes by spells =
+    ap (λ b. kind_of b (is_reserved bytes) (has_fraction bytes)) by ∙ ap (λ r. kind_of begins.Word r (has_fraction bytes)) spells.1
 kind_is Quoted begin bytes by spells = ap (λ b. kind_of b (is_reserved bytes) (has_fraction bytes)) by
 kind_is Str begin bytes by spells = ap (λ b. kind_of b (is_reserved bytes) (has_fraction bytes)) by
-kind_is Int begin bytes by spells = ap (λ b. kind_of b (is_reserved bytes) (has_fraction bytes)) by ∙ ap (λ d. kind_of begins.Number (is_reserved bytes) d) (integer_whole bytes spells)
-kind_is Dec begin bytes by spells = ap (λ b. kind_of b (is_reserved bytes) (has_fraction bytes)) by ∙ ap (λ d. kind_of begins.Number (is_reserved bytes) d) (decimal_whole bytes spells)
-kind_is Symbol begin bytes by spells = elim by [ inl slashed ↦ ap (λ b. kind_of b (is_reserved bytes) (has_fraction bytes)) slashed | inr other ↦ ap (λ b. kind_of b (is_reserved bytes) (has_fraction bytes)) other ]
+kind_is Int begin bytes by spells =
+    ap (λ b. kind_of b (is_reserved bytes) (has_fraction bytes)) by ∙ ap (λ d. kind_of begins.Number (is_reserved bytes) d) (integer_whole bytes spells)
+kind_is Dec begin bytes by spells =
+    ap (λ b. kind_of b (is_reserved bytes) (has_fraction bytes)) by ∙ ap (λ d. kind_of begins.Number (is_reserved bytes) d) (decimal_whole bytes spells)
+kind_is Symbol begin bytes by spells =
+    elim by [
+      | inl slashed ↦ ap (λ b. kind_of b (is_reserved bytes) (has_fraction bytes)) slashed
+      | inr other ↦ ap
+          (λ b. kind_of b (is_reserved bytes) (has_fraction bytes)) other
+    ]
 
 pub same_kind : (kind other : TokenKind) (bytes : List ℕ) → Spells kind bytes → Spells other bytes → kind ≡ other
 same_kind kind other bytes spells again =
@@ -128,7 +140,8 @@ word_reaches bytes after read n is reads =
     let len : prefix_len is_word_byte (bytes ++ after) ≡ n = ap len_of (sym here ∙ reads) in
     omega (arith, run_reaches is_word_byte bytes after (word_bytes bytes is))
 
-number_reaches : (bytes after : List ℕ) (read : TokenKind) (n : ℕ) → is_ascii_digit (slice_index (bytes ++ after) 0) ≡ true → length bytes ≤ number_len (bytes ++ after) → next (bytes ++ after) ≡ steps.Token read n → length bytes ≤ n
+number_reaches : (bytes after : List ℕ) (read : TokenKind) (n : ℕ) → is_ascii_digit (slice_index (bytes ++ after) 0) ≡ true
+    → length bytes ≤ number_len (bytes ++ after) → next (bytes ++ after) ≡ steps.Token read n → length bytes ≤ n
 number_reaches bytes after read n digit reach reads =
     let len = number_read (bytes ++ after) read n (sym (number_next (bytes ++ after) digit) ∙ reads) in
     omega arith
@@ -184,10 +197,12 @@ name_whole bytes text after quoted some =
     let more : 0 < length letters = omega (arith, ap (λ (l : List ℕ). length l) quoted.3, length-map letters meaning) in
     let first = letters_first 39 letters (39 ∷ after) refl are (inl more) in
     let joined : (spellings letters ++ 39 ∷ []) ++ after ≡ spellings letters ++ 39 ∷ after = append_assoc (spellings letters) (39 ∷ []) after in
-    ap (λ (l : List ℕ). next (l ++ after)) quoted.1 ∙ name_next ((spellings letters ++ 39 ∷ []) ++ after) (ap (λ (l : List ℕ). eqb (slice_index l 0) 39) joined ∙ first)
+    ap (λ (l : List ℕ). next (l ++ after)) quoted.1 ∙ name_next ((spellings letters ++ 39 ∷ []) ++ after) (ap (λ (l : List ℕ). eqb (slice_index l 0) 39) joined
+    ∙ first)
     ∙ ap (λ (l : List ℕ). reading.quoted Quoted 39 1 0 (drop 1 (l ++ after))) (sym quoted.1) ∙ quoted_met Quoted 39 bytes text after refl quoted
 
-pub token_reaches : (kind : TokenKind) (bytes after : List ℕ) (read : TokenKind) (n : ℕ) → Spells kind bytes → next (bytes ++ after) ≡ steps.Token read n → length bytes ≤ n
+pub token_reaches : (kind : TokenKind) (bytes after : List ℕ) (read : TokenKind) (n : ℕ) → Spells kind bytes → next (bytes ++ after) ≡ steps.Token read n
+    → length bytes ≤ n
 token_reaches Plain bytes after read n spells reads = word_reaches bytes after read n spells.0 reads
 token_reaches Reserved bytes after read n spells reads = word_reaches bytes after read n spells.0 reads
 token_reaches Quoted bytes after read n spells reads =
@@ -196,8 +211,10 @@ token_reaches Quoted bytes after read n spells reads =
 token_reaches Str bytes after read n spells reads =
     let len : length bytes ≡ n = ap len_of (sym (string_whole bytes spells.0 after spells.1) ∙ reads) in
     omega arith
-token_reaches Int bytes after read n spells reads = number_reaches bytes after read n (integer_begins bytes after spells) (integer_reaches bytes after spells) reads
-token_reaches Dec bytes after read n spells reads = number_reaches bytes after read n (decimal_begins bytes after spells) (decimal_reaches bytes after spells) reads
+token_reaches Int bytes after read n spells reads =
+    number_reaches bytes after read n (integer_begins bytes after spells) (integer_reaches bytes after spells) reads
+token_reaches Dec bytes after read n spells reads =
+    number_reaches bytes after read n (decimal_begins bytes after spells) (decimal_reaches bytes after spells) reads
 token_reaches Symbol bytes after read n spells reads = symbol_next_reaches bytes after read n spells reads
 
 -- ---- what is read is a token
@@ -238,22 +255,28 @@ no_space Symbol begin by space = elim by [ inl slashed ↦ cc | inr other ↦ cc
 comment_begins : (text bytes after : List ℕ) → text ≡ bytes ++ after → begins_comment (bytes ++ after) ≡ true → begins_comment text ≡ false → ⊥
 comment_begins text bytes after is begins isnt = true≢false (sym begins ∙ ap begins_comment (sym is) ∙ isnt)
 
-blank_by : (kind : TokenKind) (bytes after blank_bytes rest : List ℕ) → IsToken kind bytes after → bytes ++ after ≡ blank_bytes ++ rest → IsBlank blank_bytes rest → ⊥
+blank_by : (kind : TokenKind) (bytes after blank_bytes rest : List ℕ) → IsToken kind bytes after → bytes ++ after ≡ blank_bytes ++ rest
+    → IsBlank blank_bytes rest → ⊥
 blank_by kind bytes after blank_bytes rest is same blank_is =
     elim blank_is [
       | inl space ↦
           let first : slice_index (bytes ++ after) 0 ≡ space.0 = ap (λ (l : List ℕ). slice_index l 0) same ∙ first_byte blank_bytes [] rest space.0 space.1 in
-          no_space kind (begin_of (slice_index (bytes ++ after) 0)) (spelled_begins kind bytes after is.spelled) (ap begin_of first ∙ begin_space space.0 space.2)
-      | inr (inl line) ↦ comment_begins (bytes ++ after) blank_bytes rest same (subst (λ (b : List ℕ). begins_comment (b ++ rest) ≡ true) (sym line.1) refl) is.no_comment
-      | inr (inr block) ↦ comment_begins (bytes ++ after) blank_bytes rest same (subst (λ (b : List ℕ). begins_comment (b ++ rest) ≡ true) (sym block.1) refl) is.no_comment
+          no_space kind (begin_of (slice_index (bytes ++ after) 0)) (spelled_begins kind bytes after is.spelled)
+          (ap begin_of first ∙ begin_space space.0 space.2)
+      | inr (inl line) ↦ comment_begins (bytes ++ after) blank_bytes rest same (subst (λ (b : List ℕ). begins_comment (b ++ rest) ≡ true) (sym line.1) refl)
+          is.no_comment
+      | inr (inr block) ↦ comment_begins (bytes ++ after) blank_bytes rest same (subst (λ (b : List ℕ). begins_comment (b ++ rest) ≡ true) (sym block.1) refl)
+          is.no_comment
     ]
 
 -- no blank begins where a token does
 no_blank : (kind : TokenKind) (bytes after : List ℕ) (n : ℕ) → IsToken kind bytes after → BlankAt (bytes ++ after) n → ⊥
 no_blank kind bytes after n is at = blank_by kind bytes after at.bytes at.after is at.text_is at.is_blank
 
-token_by : (kind : TokenKind) (bytes after : List ℕ) (step : Step) → IsToken kind bytes after → next (bytes ++ after) ≡ step → Stands (bytes ++ after) step → step ≡ steps.Token kind (length bytes)
-token_by kind bytes after steps.End is reads stands = absurd (omega (arith, ap (λ (l : List ℕ). length l) stands, length-append bytes after, spelled_some kind bytes is.spelled))
+token_by : (kind : TokenKind) (bytes after : List ℕ) (step : Step) → IsToken kind bytes after → next (bytes ++ after) ≡ step → Stands (bytes ++ after) step
+    → step ≡ steps.Token kind (length bytes)
+token_by kind bytes after steps.End is reads stands =
+    absurd (omega (arith, ap (λ (l : List ℕ). length l) stands, length-append bytes after, spelled_some kind bytes is.spelled))
 token_by kind bytes after (steps.Blank n) is reads stands = absurd (no_blank kind bytes after n is stands)
 token_by kind bytes after (steps.Fault fault place) is reads stands = absurd (is.no_fault fault place stands)
 token_by kind bytes after (steps.Token read n) is reads stands =
@@ -282,5 +305,6 @@ item_by (token kind bytes) (token read more) after rest same steps_same =
     let kinds_same : kind ≡ read = cc in
     ap (λ k. token k bytes) kinds_same ∙ ap (λ (b : List ℕ). token read b) (first_same bytes after more rest same (ap len_of steps_same))
 
-pub item_same : (item other : Item) (after rest : List ℕ) → bytes_of item ++ after ≡ bytes_of other ++ rest → IsItem item after → IsItem other rest → item ≡ other
+pub item_same : (item other : Item) (after rest : List ℕ) → bytes_of item ++ after ≡ bytes_of other ++ rest → IsItem item after → IsItem other rest
+    → item ≡ other
 item_same item other after rest same is again = item_by item other after rest same (sym (item_next item after is) ∙ ap next same ∙ item_next other rest again)

@@ -1,5 +1,6 @@
 -- A run of bytes that pass q, seen a vector at a time by the mask of those that don't.
-use Rattle.std.proofs.Common.{◌≡◌, ℕ, ◌+◌, ◌*◌, ◌%◌, ◌^◌, ◌<◌, ◌≤◌, Bool, true, false, not, cond, eqb, List, [], ◌∷◌, map, length, drop, replicate, Fits, w8, refl, sym, ap, ap₂, ◌∙◌, arith}
+use Rattle.std.proofs.Common.{◌≡◌, ℕ, ◌+◌, ◌*◌, ◌%◌, ◌^◌, ◌<◌, ◌≤◌, Bool, true, false, not, cond, eqb, List, [], ◌∷◌, map, length, drop, replicate, Fits, w8}
+use Rattle.std.proofs.Common.{refl, sym, ap, ap₂, ◌∙◌, arith}
 use Rattle.std.proofs.lemmas.Bool.{agree_below, agree_below_at, eq-eqb, ne_eqb}
 use Rattle.std.proofs.lemmas.List.{length-map}
 use Rattle.std.proofs.lemmas.List.Folds.{prefix_len-append}
@@ -28,7 +29,8 @@ each_byte f p all [] fits = refl
 each_byte f p all (x ∷ xs) fits = ap₂ (λ a b. a ∷ b) (agree_below_at (λ y. top 7 (f y)) p 256 x all fits.0.fits) (each_byte f p all xs fits.1)
 
 -- lanes whose top bit agrees with p at each byte give its mask
-pub masked : (f : ℕ → ℕ) (p : ℕ → Bool) (v z : List ℕ) → length v ≡ 16 → Each1 (Fits w8) v → z ≡ map f v → agree_below (λ x. top 7 (f x)) p 256 ≡ true → mask_l (map (top 7) z) % 2 ^ 64 ≡ mask_l (map p v)
+pub masked : (f : ℕ → ℕ) (p : ℕ → Bool) (v z : List ℕ) → length v ≡ 16 → Each1 (Fits w8) v → z ≡ map f v → agree_below (λ x. top 7 (f x)) p 256 ≡ true
+    → mask_l (map (top 7) z) % 2 ^ 64 ≡ mask_l (map p v)
 masked f p v z long fits is all =
     ap (λ l. mask_l l % 2 ^ 64) (ap (map (top 7)) is ∙ each_byte f p all v fits) ∙ mask_l-mod (map p v) 64 (omega (arith, length-map v p))
 
@@ -54,19 +56,24 @@ module _ (q : ℕ → Bool) where
   all_pass [] e = refl
   all_pass (x ∷ xs) e = none_stops (q x) _ (length xs) _ (prefix_len-le-length q xs) (omega arith) (all_pass xs)
 
-  split : (d : List ℕ) (i : ℕ) → prefix_len q (drop i d) ≡ cond (eqb (prefix_len q (chunk i 16 d)) (length (chunk i 16 d))) (length (chunk i 16 d) + prefix_len q (drop (i + 16) d)) (prefix_len q (chunk i 16 d))
+  split : (d : List ℕ) (i : ℕ)
+      → prefix_len q (drop i d) ≡ cond (eqb (prefix_len q (chunk i 16 d)) (length (chunk i 16 d))) (length (chunk i 16 d)
+      + prefix_len q (drop (i + 16) d)) (prefix_len q (chunk i 16 d))
   split d i = ap (prefix_len q) (chunk-drop i 16 d) ∙ prefix_len-append q (chunk i 16 d) (drop (i + 16) d)
 
   -- no stop among the next 16 bytes
-  pub run_through : (d : List ℕ) (i : ℕ) → i + 16 ≤ length d → mask_l (map stop (chunk i 16 d)) ≡ 0 → prefix_len q (drop i d) ≡ 16 + prefix_len q (drop (i + 16) d)
+  pub run_through : (d : List ℕ) (i : ℕ) → i + 16 ≤ length d → mask_l (map stop (chunk i 16 d)) ≡ 0
+      → prefix_len q (drop i d) ≡ 16 + prefix_len q (drop (i + 16) d)
   run_through d i room none =
       let c = chunk i 16 d in
       split d i ∙ ap (λ b. cond b (length c + prefix_len q (drop (i + 16) d)) (prefix_len q c)) (eq-eqb _ _ (same_run c ∙ leading_from_mask_l stop c none))
       ∙ ap (λ k. k + prefix_len q (drop (i + 16) d)) (length-chunk i 16 d room)
 
   -- the first stop among them
-  pub run_until : (d : List ℕ) (i : ℕ) → i + 16 ≤ length d → 0 < mask_l (map stop (chunk i 16 d)) → prefix_len q (drop i d) ≡ count_trailing_zeros 64 (mask_l (map stop (chunk i 16 d)))
+  pub run_until : (d : List ℕ) (i : ℕ) → i + 16 ≤ length d → 0 < mask_l (map stop (chunk i 16 d))
+      → prefix_len q (drop i d) ≡ count_trailing_zeros 64 (mask_l (map stop (chunk i 16 d)))
   run_until d i room some =
       let c = chunk i 16 d in
-      split d i ∙ ap (λ b. cond b (length c + prefix_len q (drop (i + 16) d)) (prefix_len q c)) (ne_eqb _ _ (λ (e : prefix_len q c ≡ length c). omega (arith, all_pass c e)))
+      split d i ∙ ap (λ b. cond b (length c + prefix_len q (drop (i + 16) d)) (prefix_len q c)) (ne_eqb
+      _ _ (λ (e : prefix_len q c ≡ length c). omega (arith, all_pass c e)))
       ∙ same_run c ∙ sym (trailing_mask_l stop 64 c (omega (arith, length-chunk i 16 d room)) some)

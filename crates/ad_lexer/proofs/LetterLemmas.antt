@@ -1,5 +1,6 @@
 -- The letter at the front of the rest of a string.
-use Rattle.std.proofs.Common.{◌≡◌, ◌≢◌, ◌⊎◌, ℕ, suc, ◌-◌, ◌<◌, ◌≤◌, Bool, true, false, cond, eqb, ltb, ◌&&◌, ◌||◌, List, [], ◌∷◌, ◌++◌, length, slice_index, Option, Some, None, refl, sym, ◌∙◌, ap, subst, inl, inr, arith}
+use Rattle.std.proofs.Common.{◌≡◌, ◌≢◌, ◌⊎◌, ℕ, suc, ◌-◌, ◌<◌, ◌≤◌, Bool, true, false, cond, eqb, ltb, ◌&&◌, ◌||◌, List, [], ◌∷◌, ◌++◌, length, slice_index}
+use Rattle.std.proofs.Common.{Option, Some, None, refl, sym, ◌∙◌, ap, subst, inl, inr, arith}
 use Rattle.std.proofs.lemmas.Bool.{cases_Bool, and_parts, and_from, true≢false, eqb-true, lt-ltb, ltb-true}
 use Rattle.std.proofs.lemmas.Bool.Decides.{nat_tests}
 use Rattle.std.specs.Char.{digit_value}
@@ -78,7 +79,8 @@ digits_told (a ∷ b ∷ c ∷ d ∷ more) after is = absurd (omega (arith, is.m
 pub octal_digits : (digits after : List ℕ) → IsOctal digits after → Digits digits after
 octal_digits digits after is = record { some = is.some; most = is.most; octal = is.octal; whole = is.whole }
 
-to_octal : (text : List ℕ) → is_octal_digit (slice_index text 0) ≡ true → reading.escape text ≡ reading.octal (slice_index text 0) (slice_index text 1) (slice_index text 2)
+to_octal : (text : List ℕ) → is_octal_digit (slice_index text 0) ≡ true
+    → reading.escape text ≡ reading.octal (slice_index text 0) (slice_index text 1) (slice_index text 2)
 unfolding reading.escape
 to_octal [] is = absurd (true≢false (sym is))
 to_octal (byte ∷ bytes) is = ap (λ o. reading.escape_or o (reading.octal byte (slice_index bytes 0) (slice_index bytes 1))) (octal_unescaped byte is)
@@ -87,9 +89,16 @@ octal_met : (digits after : List ℕ) → IsOctal digits after → reading.escap
 unfolding reading.octal
 octal_met digits after is =
     let told = digits_told digits after (octal_digits digits after is) in
-    to_octal (digits ++ after) told.first ∙ rw (told.first, told.value, told.len, lt-ltb 0 (digits_value 8 digits) is.above, lt-ltb (digits_value 8 digits) 128 is.below) refl
+    to_octal (digits ++ after) told.first ∙ rw (
+      told.first,
+      told.value,
+      told.len,
+      lt-ltb 0 (digits_value 8 digits) is.above,
+      lt-ltb (digits_value 8 digits) 128 is.below,
+    ) refl
 
-pub letter_met : (quote : ℕ) (letter : Letter) (after : List ℕ) → is_quote quote ≡ true → IsLetter quote letter after → reading.front quote (spelling letter ++ after) ≡ fronts.Letter (length (spelling letter)) (meaning letter)
+pub letter_met : (quote : ℕ) (letter : Letter) (after : List ℕ) → is_quote quote ≡ true → IsLetter quote letter after
+    → reading.front quote (spelling letter ++ after) ≡ fronts.Letter (length (spelling letter)) (meaning letter)
 letter_met quote (plain byte) after is_quote is = plain_met quote byte after is
 letter_met quote (escape byte meant) after is_quote is = backslash quote (byte ∷ after) is_quote ∙ escape_met byte meant after is
 letter_met quote (octal digits) after is_quote is = backslash quote (digits ++ after) is_quote ∙ octal_met digits after is
@@ -120,7 +129,8 @@ FrontReads quote text fronts.Backslash = (byte : ℕ) × (more : List ℕ) × (t
 
 -- behind a backslash the digits that stand first are an escape, where their value is in range
 digits_read : (quote : ℕ) (digits after : List ℕ) (byte : ℕ) (more : List ℕ) → digits ++ after ≡ byte ∷ more → Digits digits after
-    → FrontReads quote (92 ∷ (digits ++ after)) (reading.octal (slice_index (digits ++ after) 0) (slice_index (digits ++ after) 1) (slice_index (digits ++ after) 2))
+    → FrontReads quote (92 ∷ (digits ++ after)) (reading.octal (slice_index (digits ++ after) 0) (slice_index (digits ++ after) 1) (slice_index (digits
+    ++ after) 2))
 unfolding reading.octal
 digits_read quote digits after byte more begins are =
     let told = digits_told digits after are in
@@ -132,7 +142,16 @@ digits_read quote digits after byte more begins are =
             letter = octal digits;
             after = after;
             text_is = refl;
-            is_letter = record { some = are.some; most = are.most; octal = are.octal; whole = are.whole; above = ltb-true 0 value both.0; below = ltb-true value 128 both.1 };
+            is_letter =
+                record {
+                  some =
+                      are.some;
+                  most = are.most;
+                  octal = are.octal;
+                  whole = are.whole;
+                  above = ltb-true 0 value both.0;
+                  below = ltb-true value 128 both.1;
+                };
             length_is = refl;
           })
       | inr out ↦ rw out (byte, more, ap (λ (l : List ℕ). 92 ∷ l) begins)
@@ -146,21 +165,54 @@ record FirstDigits (text : List ℕ) : Type 0 where
   are : Digits digits after
 
 one_digit : (a : ℕ) (bytes : List ℕ) → is_octal_digit a ≡ true → is_octal_digit (slice_index bytes 0) ≡ false → FirstDigits (a ∷ bytes)
-one_digit a bytes first stops = record { digits = a ∷ []; after = bytes; text_is = refl; are = record { some = omega arith; most = omega arith; octal = and_from _ true first refl; whole = λ short. stops } }
+one_digit a bytes first stops =
+    record {
+      digits =
+          a ∷ [];
+      after = bytes;
+      text_is = refl;
+      are = record { some = omega arith; most = omega arith; octal = and_from _ true first refl; whole = λ short. stops };
+    }
 
 first_digits : (a : ℕ) (bytes : List ℕ) → is_octal_digit a ≡ true → FirstDigits (a ∷ bytes)
 first_digits a [] first = one_digit a [] first refl
-first_digits a (b ∷ bytes) first = elim (cases_Bool (is_octal_digit b)) [ inl second ↦ two_digits a b bytes first second | inr stops ↦ one_digit a (b ∷ bytes) first stops ]
+first_digits a (b ∷ bytes) first =
+    elim (cases_Bool (is_octal_digit b)) [ inl second ↦ two_digits a b bytes first second | inr stops ↦ one_digit a (b ∷ bytes) first stops ]
   where
-    most_digits : (a b : ℕ) (bytes : List ℕ) → is_octal_digit a ≡ true → is_octal_digit b ≡ true → is_octal_digit (slice_index bytes 0) ≡ false → FirstDigits (a ∷ b ∷ bytes)
+    most_digits : (a b : ℕ) (bytes : List ℕ) → is_octal_digit a ≡ true → is_octal_digit b ≡ true → is_octal_digit (slice_index bytes 0) ≡ false
+        → FirstDigits (a ∷ b ∷ bytes)
     most_digits a b bytes first second stops =
-        record { digits = a ∷ b ∷ []; after = bytes; text_is = refl; are = record { some = omega arith; most = omega arith; octal = and_from _ _ first (and_from _ true second refl); whole = λ short. stops } }
+        record {
+          digits =
+              a ∷ b ∷ [];
+          after =
+              bytes;
+          text_is =
+              refl;
+          are = record { some = omega arith; most = omega arith; octal = and_from _ _ first (and_from _ true second refl); whole = λ short. stops };
+        }
 
     two_digits : (a b : ℕ) (bytes : List ℕ) → is_octal_digit a ≡ true → is_octal_digit b ≡ true → FirstDigits (a ∷ b ∷ bytes)
     two_digits a b [] first second = most_digits a b [] first second refl
     two_digits a b (c ∷ bytes) first second =
         elim (cases_Bool (is_octal_digit c)) [
-          | inl third ↦ record { digits = a ∷ b ∷ c ∷ []; after = bytes; text_is = refl; are = record { some = omega arith; most = omega arith; octal = and_from _ _ first (and_from _ _ second (and_from _ true third refl)); whole = λ short. absurd (omega arith) } }
+          | inl third ↦ record {
+            digits =
+                a ∷ b ∷ c ∷ [];
+            after =
+                bytes;
+            text_is =
+                refl;
+            are =
+                record {
+                  some =
+                      omega arith;
+                  most =
+                      omega arith;
+                  octal = and_from _ _ first (and_from _ _ second (and_from _ true third refl));
+                  whole = λ short. absurd (omega arith);
+                };
+          }
           | inr stops ↦ most_digits a b (c ∷ bytes) first second stops
         ]
 
@@ -170,11 +222,13 @@ octal_reads quote a bytes =
     elim (cases_Bool (is_octal_digit a)) [
       | inl first ↦
           let found = first_digits a bytes first in
-          subst (λ (l : List ℕ). FrontReads quote (92 ∷ l) (reading.octal (slice_index l 0) (slice_index l 1) (slice_index l 2))) (sym found.text_is) (digits_read quote found.digits found.after a bytes (sym found.text_is) found.are)
+          subst (λ (l : List ℕ). FrontReads quote (92 ∷ l) (reading.octal (slice_index l 0) (slice_index l 1) (slice_index l 2))) (sym found.text_is)
+          (digits_read quote found.digits found.after a bytes (sym found.text_is) found.are)
       | inr none ↦ rw none (a, bytes, refl)
     ]
 
-escape_reads : (quote a : ℕ) (bytes : List ℕ) (meant : Option ℕ) → escaped a ≡ meant → FrontReads quote (92 ∷ a ∷ bytes) (reading.escape_or meant (reading.octal a (slice_index bytes 0) (slice_index bytes 1)))
+escape_reads : (quote a : ℕ) (bytes : List ℕ) (meant : Option ℕ) → escaped a ≡ meant
+    → FrontReads quote (92 ∷ a ∷ bytes) (reading.escape_or meant (reading.octal a (slice_index bytes 0) (slice_index bytes 1)))
 escape_reads quote a bytes None is = octal_reads quote a bytes
 escape_reads quote a bytes (Some m) is = record { letter = escape a m; after = bytes; text_is = refl; is_letter = is; length_is = refl }
 
@@ -184,12 +238,15 @@ backslash_reads quote [] = inr (inl refl)
 backslash_reads quote (a ∷ bytes) = escape_reads quote a bytes (escaped a) refl
 
 by_tests : (quote byte : ℕ) (bytes : List ℕ) (close feed nul back : Bool) → eqb byte quote ≡ close → eqb byte 10 ≡ feed → eqb byte 0 ≡ nul → eqb byte 92 ≡ back
-    → FrontReads quote (byte ∷ bytes) (cond close fronts.Close (cond feed fronts.LineEnd (cond nul fronts.Nul (cond back (reading.escape bytes) (fronts.Letter 1 byte)))))
+    → FrontReads quote (byte ∷ bytes) (cond close fronts.Close (cond feed fronts.LineEnd
+    (cond nul fronts.Nul (cond back (reading.escape bytes) (fronts.Letter 1 byte)))))
 by_tests quote byte bytes true feed nul back a b c d = (bytes, ap (λ (x : ℕ). x ∷ bytes) (eqb-true byte quote a))
 by_tests quote byte bytes false true nul back a b c d = inr (inr (bytes, ap (λ (x : ℕ). x ∷ bytes) (eqb-true byte 10 b)))
 by_tests quote byte bytes false false true back a b c d = (bytes, ap (λ (x : ℕ). x ∷ bytes) (eqb-true byte 0 c))
-by_tests quote byte bytes false false false true a b c d = subst (λ (x : ℕ). FrontReads quote (x ∷ bytes) (reading.escape bytes)) (sym (eqb-true byte 92 d)) (backslash_reads quote bytes)
-by_tests quote byte bytes false false false false a b c d = record { letter = plain byte; after = bytes; text_is = refl; is_letter = rw (a, d, b, c) refl; length_is = refl }
+by_tests quote byte bytes false false false true a b c d =
+    subst (λ (x : ℕ). FrontReads quote (x ∷ bytes) (reading.escape bytes)) (sym (eqb-true byte 92 d)) (backslash_reads quote bytes)
+by_tests quote byte bytes false false false false a b c d =
+    record { letter = plain byte; after = bytes; text_is = refl; is_letter = rw (a, d, b, c) refl; length_is = refl }
 
 pub front_reads : (quote : ℕ) (text : List ℕ) → FrontReads quote text (reading.front quote text)
 unfolding reading.front

@@ -1,5 +1,6 @@
 -- The marks of the tokens at the front of a text.
-use Rattle.std.proofs.Common.{◌≡◌, ℕ, zero, suc, ◌-◌, ◌+◌, ◌<◌, ◌≤◌, Bool, true, false, cond, eqb, leb, ◌||◌, List, map, [], ◌∷◌, length, take, drop, slice_index, ap, Some, None, refl, sym, ◌∙◌, inl, inr, arith}
+use Rattle.std.proofs.Common.{◌≡◌, ℕ, zero, suc, ◌-◌, ◌+◌, ◌<◌, ◌≤◌, Bool, true, false, cond, eqb, leb, ◌||◌, List, map, [], ◌∷◌, length, take, drop}
+use Rattle.std.proofs.Common.{slice_index, ap, Some, None, refl, sym, ◌∙◌, inl, inr, arith}
 use Rattle.std.proofs.lemmas.Bool.{cases_Bool, true≢false}
 use Rattle.std.proofs.lemmas.Bool.Decides.{nat_tests}
 use Rattle.std.specs.List.{list_any}
@@ -15,7 +16,8 @@ use Rattle.ad_lexer.specs.declared.token.TokenKind.{TokenKind}
 use Rattle.ad_lexer.specs.declared.token.TokenKind.TheVariants.{Quoted, Str, Symbol}
 use Rattle.ad_lexer.specs.Marks.{mark_of_kind, marks, meaning_of}
 use Rattle.ad_lexer.specs.Numbers.{has_fraction, number_len}
-use Rattle.ad_lexer.specs.Reading.{alone, begin_of, begins_more, front, name, next, number, number_kind, quoted, quoted_by, string, symbol, symbol_len, IsMarked}
+use Rattle.ad_lexer.specs.Reading.{alone, begin_of, begins_more, front, name, next, number, number_kind, quoted, quoted_by, string, symbol, symbol_len}
+use Rattle.ad_lexer.specs.Reading.{IsMarked}
 use Rattle.ad_lexer.specs.Symbols.{is_symbol}
 use Rattle.ad_lexer.proofs.Begins.{begin_is}
 use Rattle.ad_lexer.proofs.ItemLemmas.{symbol_begins}
@@ -35,7 +37,8 @@ first_three (a ∷ b ∷ c ∷ text) (suc (suc (suc (suc n)))) few within = absu
 
 -- ---- what has no mark
 
-number_by : (text : List ℕ) (marked whole decimal : Bool) (len : ℕ) → IsMarked text (cond marked (steps.Fault kinds.Decimal 0) (cond whole (steps.Token (number_kind decimal) len) (steps.Fault kinds.Number 0))) None
+number_by : (text : List ℕ) (marked whole decimal : Bool) (len : ℕ)
+    → IsMarked text (cond marked (steps.Fault kinds.Decimal 0) (cond whole (steps.Token (number_kind decimal) len) (steps.Fault kinds.Number 0))) None
 number_by text true whole decimal len = tt
 number_by text false true true len = refl
 number_by text false true false len = refl
@@ -45,14 +48,16 @@ pub number_unmarked : (text : List ℕ) → IsMarked text (number text) None
 unfolding number
 number_unmarked text = number_by text _ _ (has_fraction text) (number_len text)
 
-quoted_by_unmarked : (text : List ℕ) (kind : TokenKind) (at : ℕ) (f : Front) (more : ℕ → Step) → ((bytes : List ℕ) → mark_of_kind kind bytes ≡ None) → ((len : ℕ) → IsMarked text (more len) None) → IsMarked text (quoted_by kind at f more) None
+quoted_by_unmarked : (text : List ℕ) (kind : TokenKind) (at : ℕ) (f : Front) (more : ℕ → Step) → ((bytes : List ℕ) → mark_of_kind kind bytes ≡ None)
+    → ((len : ℕ) → IsMarked text (more len) None) → IsMarked text (quoted_by kind at f more) None
 quoted_by_unmarked text kind at (fronts.Letter len meant) more none each = each len
 quoted_by_unmarked text kind at fronts.Close more none each = sym (none _)
 quoted_by_unmarked text kind at fronts.LineEnd more none each = tt
 quoted_by_unmarked text kind at fronts.Nul more none each = tt
 quoted_by_unmarked text kind at fronts.Backslash more none each = tt
 
-quoted_unmarked : (text : List ℕ) (kind : TokenKind) (quote at skip : ℕ) (rest : List ℕ) → ((bytes : List ℕ) → mark_of_kind kind bytes ≡ None) → IsMarked text (quoted kind quote at skip rest) None
+quoted_unmarked : (text : List ℕ) (kind : TokenKind) (quote at skip : ℕ) (rest : List ℕ) → ((bytes : List ℕ) → mark_of_kind kind bytes ≡ None)
+    → IsMarked text (quoted kind quote at skip rest) None
 quoted_unmarked text kind quote at skip [] none = tt
 quoted_unmarked text kind quote at (suc skip) (byte ∷ bytes) none = quoted_unmarked text kind quote (at + 1) skip bytes none
 quoted_unmarked text kind quote at zero (byte ∷ bytes) none =
@@ -68,11 +73,13 @@ name_by text false step is = is
 
 pub name_unmarked : (text : List ℕ) → IsMarked text (name text) None
 unfolding name
-name_unmarked text = name_by text (eqb (slice_index text 1) 39) (quoted Quoted 39 1 0 (drop 1 text)) (quoted_unmarked text Quoted 39 1 0 (drop 1 text) (λ bytes. refl))
+name_unmarked text =
+    name_by text (eqb (slice_index text 1) 39) (quoted Quoted 39 1 0 (drop 1 text)) (quoted_unmarked text Quoted 39 1 0 (drop 1 text) (λ bytes. refl))
 
 -- ---- symbols however the text goes on
 
-meaning_among : (rows : List (List ℕ × Mark)) (bytes : List ℕ) (mark : Mark) → meaning_of rows bytes ≡ Some mark → list_any (bytes_eq bytes) (map (λ row. row.0) rows) ≡ true
+meaning_among : (rows : List (List ℕ × Mark)) (bytes : List ℕ) (mark : Mark) → meaning_of rows bytes ≡ Some mark
+    → list_any (bytes_eq bytes) (map (λ row. row.0) rows) ≡ true
 meaning_among [] bytes mark is = absurd (cc)
 meaning_among (row ∷ rows) bytes mark is =
     elim (cases_Bool (bytes_eq bytes row.0)) [

@@ -1,5 +1,6 @@
 -- The text of fewer than 2^63 millionths is a decimal of so many, and digits of 2^63 and more are too many.
-use Rattle.std.proofs.Common.{◌≡◌, ℕ, zero, suc, decimal, ◌+◌, ◌*◌, ◌/◌, ◌%◌, ◌^◌, ◌<◌, Bool, true, false, cond, eqb, ltb, not, ◌&&◌, List, [], ◌∷◌, length, take, refl, sym, ◌∙◌, ap, arith, mod-lt}
+use Rattle.std.proofs.Common.{◌≡◌, ℕ, zero, suc, decimal, ◌+◌, ◌*◌, ◌/◌, ◌%◌, ◌^◌, ◌<◌, Bool, true, false, cond, eqb, ltb, not, ◌&&◌, List, [], ◌∷◌, length}
+use Rattle.std.proofs.Common.{take, refl, sym, ◌∙◌, ap, arith, mod-lt}
 use Rattle.std.proofs.lemmas.Bool.{and_parts, and_from, eqb-true, lt-ltb, true≢false}
 use Rattle.std.proofs.lemmas.Bool.Decides.{nat_tests}
 use Rattle.std.proofs.lemmas.Fmt.{decimal_is_IsNumeral}
@@ -42,42 +43,53 @@ digit_at n = digit_is (n % 10) (mod-lt n (omega arith))
 
 six_each : (n : ℕ) → list_all is_ascii_digit (six_digits n) ≡ true
 six_each n =
-    and_from _ _ (digit_at (n / 100000)) (and_from _ _ (digit_at (n / 10000)) (and_from _ _ (digit_at (n / 1000)) (and_from _ _ (digit_at (n / 100)) (and_from _ _ (digit_at (n / 10)) (and_from _ _ (digit_at n) refl)))))
+    and_from _ _ (digit_at (n / 100000)) (and_from _ _ (digit_at (n / 10000))
+    (and_from _ _ (digit_at (n / 1000)) (and_from _ _ (digit_at (n / 100)) (and_from _ _ (digit_at (n / 10)) (and_from _ _ (digit_at n) refl)))))
 
 below : (n : ℕ) → n % 10 < 10
 below n = mod-lt n (omega arith)
 
 printed_6 : (n : ℕ) → n < 1000000 → IsPrinted n 6
 printed_6 n low = record {
-  value = six_value (n / 100000 % 10) (n / 10000 % 10) (n / 1000 % 10) (n / 100 % 10) (n / 10 % 10) (n % 10) n (below (n / 100000)) (below (n / 10000)) (below (n / 1000)) (below (n / 100)) (below (n / 10)) (below n) (omega arith);
+  value =
+      six_value (n / 100000 % 10) (n / 10000 % 10) (n / 1000 % 10) (n / 100 % 10) (n / 10 % 10) (n % 10) n (below (n / 100000)) (below (n / 10000))
+      (below (n / 1000)) (below (n / 100)) (below (n / 10)) (below n) (omega arith);
   some = omega arith;
   each = six_each n;
 }
 
 printed_5 : (n : ℕ) → n < 1000000 → n % 10 ≡ 0 → IsPrinted n 5
 printed_5 n low none = record {
-  value = six_value (n / 100000 % 10) (n / 10000 % 10) (n / 1000 % 10) (n / 100 % 10) (n / 10 % 10) 0 n (below (n / 100000)) (below (n / 10000)) (below (n / 1000)) (below (n / 100)) (below (n / 10)) (omega arith) (omega arith);
+  value =
+      six_value (n / 100000 % 10) (n / 10000 % 10) (n / 1000 % 10) (n / 100 % 10) (n / 10 % 10) 0 n (below (n / 100000)) (below (n / 10000)) (below (n / 1000))
+      (below (n / 100)) (below (n / 10)) (omega arith) (omega arith);
   some = omega arith;
   each = take_each 5 (six_digits n) (six_each n);
 }
 
 printed_4 : (n : ℕ) → n < 1000000 → n % 100 ≡ 0 → IsPrinted n 4
 printed_4 n low none = record {
-  value = six_value (n / 100000 % 10) (n / 10000 % 10) (n / 1000 % 10) (n / 100 % 10) 0 0 n (below (n / 100000)) (below (n / 10000)) (below (n / 1000)) (below (n / 100)) (omega arith) (omega arith) (omega arith);
+  value =
+      six_value (n / 100000 % 10) (n / 10000 % 10) (n / 1000 % 10) (n / 100 % 10) 0 0 n (below (n / 100000)) (below (n / 10000)) (below (n / 1000))
+      (below (n / 100)) (omega arith) (omega arith) (omega arith);
   some = omega arith;
   each = take_each 4 (six_digits n) (six_each n);
 }
 
 printed_3 : (n : ℕ) → n < 1000000 → n % 1000 ≡ 0 → IsPrinted n 3
 printed_3 n low none = record {
-  value = six_value (n / 100000 % 10) (n / 10000 % 10) (n / 1000 % 10) 0 0 0 n (below (n / 100000)) (below (n / 10000)) (below (n / 1000)) (omega arith) (omega arith) (omega arith) (omega arith);
+  value =
+      six_value (n / 100000 % 10) (n / 10000 % 10) (n / 1000 % 10) 0 0 0 n (below (n / 100000)) (below (n / 10000)) (below (n / 1000)) (omega arith)
+      (omega arith) (omega arith) (omega arith);
   some = omega arith;
   each = take_each 3 (six_digits n) (six_each n);
 }
 
 printed_2 : (n : ℕ) → n < 1000000 → n % 10000 ≡ 0 → IsPrinted n 2
 printed_2 n low none = record {
-  value = six_value (n / 100000 % 10) (n / 10000 % 10) 0 0 0 0 n (below (n / 100000)) (below (n / 10000)) (omega arith) (omega arith) (omega arith) (omega arith) (omega arith);
+  value =
+      six_value (n / 100000 % 10) (n / 10000 % 10) 0 0 0 0 n (below (n / 100000)) (below (n / 10000)) (omega arith) (omega arith) (omega arith) (omega arith)
+      (omega arith);
   some = omega arith;
   each = take_each 2 (six_digits n) (six_each n);
 }
@@ -136,7 +148,8 @@ whole_pass : (bytes : List ℕ) → list_all (λ c. is_digit c 10) (whole_digits
 whole_pass bytes = all_weaker is_ascii_digit (λ c. is_digit c 10) decimal_digit (whole_digits bytes) (run_passes is_ascii_digit bytes)
 
 -- where their value doesn't fit, no more do the millionths
-pub too_many : (bytes : List ℕ) → (list_all (λ c. is_digit c 10) (whole_digits bytes) && ltb (digits_value 10 (whole_digits bytes)) (2 ^ 63)) ≡ false → ¬ (millionths bytes < 2 ^ 63)
+pub too_many : (bytes : List ℕ) → (list_all (λ c. is_digit c 10) (whole_digits bytes) && ltb (digits_value 10 (whole_digits bytes)) (2 ^ 63)) ≡ false
+    → ¬ (millionths bytes < 2 ^ 63)
 too_many bytes isnt small =
     let fits : ltb (digits_value 10 (whole_digits bytes)) (2 ^ 63) ≡ true = lt-ltb (digits_value 10 (whole_digits bytes)) (2 ^ 63) (omega arith) in
     true≢false (sym (and_from _ _ (whole_pass bytes) fits) ∙ isnt)

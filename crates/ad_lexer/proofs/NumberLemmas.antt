@@ -1,5 +1,6 @@
 -- The number at the front of a text.
-use Rattle.std.proofs.Common.{◌≡◌, ℕ, zero, suc, ◌+◌, ◌<◌, ◌≤◌, Bool, true, false, cond, not, eqb, ltb, ◌^◌, ◌&&◌, ◌||◌, List, [], ◌∷◌, ◌++◌, length, length-drop, take, drop, slice_index, refl, sym, ◌∙◌, subst, inl, inr, arith}
+use Rattle.std.proofs.Common.{◌≡◌, ℕ, zero, suc, ◌+◌, ◌<◌, ◌≤◌, Bool, true, false, cond, not, eqb, ltb, ◌^◌, ◌&&◌, ◌||◌, List, [], ◌∷◌, ◌++◌, length}
+use Rattle.std.proofs.Common.{length-drop, take, drop, slice_index, refl, sym, ◌∙◌, subst, inl, inr, arith}
 use Rattle.std.proofs.lemmas.Bool.{cases_Bool, and_parts, or_left, ltb-true, true≢false}
 use Rattle.std.proofs.lemmas.Bool.Decides.{nat_tests}
 use Rattle.std.proofs.lemmas.List.Sums.{prefix_len-le-length}
@@ -21,7 +22,8 @@ use Rattle.ad_lexer.proofs.Runs.{run_reaches, all_weaker}
 -- the digits of an integer
 integer_parts : (bytes : List ℕ) → is_integer bytes ≡ true → (0 < length (digits bytes)) × (list_all (λ c. is_digit c (base bytes)) (digits bytes) ≡ true)
 integer_parts bytes is =
-    let first = and_parts (ltb 0 (length (digits bytes))) (list_all (λ c. is_digit c (base bytes)) (digits bytes)) (and_parts _ (ltb (value bytes) (2 ^ 63)) is).0 in
+    let first =
+    and_parts (ltb 0 (length (digits bytes))) (list_all (λ c. is_digit c (base bytes)) (digits bytes)) (and_parts _ (ltb (value bytes) (2 ^ 63)) is).0 in
     (ltb-true 0 (length (digits bytes)) first.0, first.1)
 
 in_base : (octal : Bool) (bytes : List ℕ) → list_all (λ c. is_digit c (cond octal 8 10)) bytes ≡ true → list_all is_ascii_digit bytes ≡ true
@@ -55,7 +57,8 @@ integer_nonempty [] is = absurd (true≢false (sym is))
 integer_nonempty (byte ∷ bytes) is = omega arith
 
 -- an integer is no longer than the number that stands first
-hexadecimal_more : (bytes after : List ℕ) → is_hexadecimal bytes ≡ true → list_all is_ascii_hexdigit (drop 2 bytes) ≡ true → length bytes ≤ number_len (bytes ++ after)
+hexadecimal_more : (bytes after : List ℕ) → is_hexadecimal bytes ≡ true → list_all is_ascii_hexdigit (drop 2 bytes) ≡ true
+    → length bytes ≤ number_len (bytes ++ after)
 hexadecimal_more [] after is each = omega arith
 hexadecimal_more (a ∷ []) after is each = absurd (grind (arith, nat_tests))
 hexadecimal_more (a ∷ b ∷ bytes) after is each = let reach = run_reaches is_ascii_hexdigit bytes after each in rw is (omega arith)
@@ -79,7 +82,8 @@ decimal_more bytes after each =
     let text : List ℕ = bytes ++ after in
     let reach = run_reaches is_ascii_digit bytes after each in
     let n : ℕ = digits_len text in
-    len_reaches (is_hexadecimal text) (has_fraction text) (length bytes) (2 + prefix_len is_ascii_hexdigit (drop 2 text)) (n + 1 + digits_len (drop (n + 1) text)) n
+    len_reaches (is_hexadecimal text) (has_fraction text) (length bytes) (2 + prefix_len is_ascii_hexdigit (drop 2 text))
+    (n + 1 + digits_len (drop (n + 1) text)) n
     (λ hexadecimal. omega (arith, one_digit bytes after each hexadecimal)) (omega (arith, reach)) reach
 
 pub integer_reaches : (bytes after : List ℕ) → is_integer bytes ≡ true → length bytes ≤ number_len (bytes ++ after)
@@ -111,9 +115,15 @@ digit_within (suc n) (byte ∷ text) is = omega (arith, digit_within n text is)
 decimal_fits : (text : List ℕ) → has_fraction text ≡ true → digits_len text + 1 + digits_len (drop (digits_len text + 1) text) ≤ length text
 decimal_fits text is =
     let digit = (and_parts (eqb (slice_index text (digits_len text)) 46) _ (and_parts (not (is_hexadecimal text)) _ is).1).1 in
-    omega (arith, digit_within (digits_len text + 1) text digit, prefix_len-le-length is_ascii_digit (drop (digits_len text + 1) text), length-drop (digits_len text + 1) text)
+    omega (
+      arith,
+      digit_within (digits_len text + 1) text digit,
+      prefix_len-le-length is_ascii_digit (drop (digits_len text + 1) text),
+      length-drop (digits_len text + 1) text,
+    )
 
-len_fits : (hexadecimal fraction : Bool) (n a b c : ℕ) → (hexadecimal ≡ true → a ≤ n) → (fraction ≡ true → b ≤ n) → c ≤ n → cond hexadecimal a (cond fraction b c) ≤ n
+len_fits : (hexadecimal fraction : Bool) (n a b c : ℕ) → (hexadecimal ≡ true → a ≤ n) → (fraction ≡ true → b ≤ n) → c ≤ n
+    → cond hexadecimal a (cond fraction b c) ≤ n
 len_fits true fraction n a b c first second third = first refl
 len_fits false true n a b c first second third = second refl
 len_fits false false n a b c first second third = third
@@ -121,7 +131,8 @@ len_fits false false n a b c first second third = third
 pub number_fits : (text : List ℕ) → number_len text ≤ length text
 number_fits text =
     let n : ℕ = digits_len text in
-    len_fits (is_hexadecimal text) (has_fraction text) (length text) (2 + prefix_len is_ascii_hexdigit (drop 2 text)) (n + 1 + digits_len (drop (n + 1) text)) n (hexadecimal_fits text) (decimal_fits text) (prefix_len-le-length is_ascii_digit text)
+    len_fits (is_hexadecimal text) (has_fraction text) (length text) (2 + prefix_len is_ascii_hexdigit (drop 2 text)) (n + 1 + digits_len (drop (n + 1) text)) n
+    (hexadecimal_fits text) (decimal_fits text) (prefix_len-le-length is_ascii_digit text)
 
 -- ---- how the tests of a number choose
 
@@ -133,7 +144,9 @@ is_marked text = is_decimal_mark (behind_number text) && not (is_hexadecimal tex
 abbrev pub is_token : List ℕ → Bool
 is_token text = not (is_word_byte (behind_number text)) && is_number (has_fraction text) (take (number_len text) text)
 
-pub number_is : (text : List ℕ) → number text ≡ cond (is_marked text) (steps.Fault kinds.Decimal 0) (cond (is_token text) (steps.Token (number_kind (has_fraction text)) (number_len text)) (steps.Fault kinds.Number 0))
+pub number_is : (text : List ℕ)
+    → number text ≡ cond (is_marked text) (steps.Fault kinds.Decimal 0) (cond (is_token text) (steps.Token (number_kind (has_fraction text)) (number_len text))
+    (steps.Fault kinds.Number 0))
 unfolding number is_whole
 number_is text = refl
 
@@ -154,10 +167,13 @@ decimal_met text is = number_is text ∙ rw (decimal_tests _ (is_hexadecimal tex
 
 pub number_met : (text : List ℕ) → is_bad_number text ≡ true → number text ≡ steps.Fault kinds.Number 0
 number_met text is =
-    let tests = number_tests _ (is_hexadecimal text) (is_decimal_mark (behind_number text)) (is_word_byte (behind_number text)) (is_number (has_fraction text) (take (number_len text) text)) is in
+    let tests =
+    number_tests _ (is_hexadecimal text) (is_decimal_mark (behind_number text)) (is_word_byte (behind_number text))
+    (is_number (has_fraction text) (take (number_len text) text)) is in
     number_is text ∙ rw (tests.0, tests.1) refl
 
-number_by : (d h m b i : Bool) (kind : TokenKind) (text : List ℕ) (len : ℕ) → d ≡ true → (i ≡ true → TokenAt kind text len) → (((d && not h) && m) ≡ true → Wrong kinds.Decimal text 0) → (((d && not ((d && not h) && m)) && (b || not i)) ≡ true → Wrong kinds.Number text 0)
+number_by : (d h m b i : Bool) (kind : TokenKind) (text : List ℕ) (len : ℕ) → d ≡ true → (i ≡ true → TokenAt kind text len)
+    → (((d && not h) && m) ≡ true → Wrong kinds.Decimal text 0) → (((d && not ((d && not h) && m)) && (b || not i)) ≡ true → Wrong kinds.Number text 0)
     → Stands text (cond (m && not h) (steps.Fault kinds.Decimal 0) (cond (not b && i) (steps.Token kind len) (steps.Fault kinds.Number 0)))
 number_by d h m b i kind text len digit token decimal other =
     elim (cases_Bool (m && not h)) [
@@ -174,11 +190,15 @@ number_spells false bytes is = is
 
 pub number_stands : (text : List ℕ) → is_ascii_digit (slice_index text 0) ≡ true → begins_comment text ≡ false → Stands text (number text)
 number_stands text digit no_comment =
-    subst (λ s. Stands text s) (sym (number_is text)) (number_by (is_ascii_digit (slice_index text 0)) (is_hexadecimal text) (is_decimal_mark (behind_number text)) (is_word_byte (behind_number text)) (is_number (has_fraction text) (take (number_len text) text)) (number_kind (has_fraction text)) text (number_len text) digit
-    (λ is. first_bytes (number_kind (has_fraction text)) text (number_len text) (number_fits text) (number_spells (has_fraction text) (take (number_len text) text) is) no_comment) (λ is. (or_left (is_bad_decimal text) _ is, refl)) (λ is. (is, refl)))
+    subst (λ s. Stands text s) (sym (number_is text)) (number_by (is_ascii_digit (slice_index text 0)) (is_hexadecimal text)
+    (is_decimal_mark (behind_number text)) (is_word_byte (behind_number text)) (is_number (has_fraction text) (take (number_len text) text))
+    (number_kind (has_fraction text)) text (number_len text) digit
+    (λ is. first_bytes (number_kind (has_fraction text)) text (number_len text) (number_fits text)
+    (number_spells (has_fraction text) (take (number_len text) text) is) no_comment) (λ is. (or_left (is_bad_decimal text) _ is, refl)) (λ is. (is, refl)))
 
 -- a token that is read is as long as the number
-token_len : (p q : Bool) (kind : TokenKind) (len : ℕ) (read : TokenKind) (n : ℕ) → cond p (steps.Fault kinds.Decimal 0) (cond q (steps.Token kind len) (steps.Fault kinds.Number 0)) ≡ steps.Token read n → len ≡ n
+token_len : (p q : Bool) (kind : TokenKind) (len : ℕ) (read : TokenKind) (n : ℕ)
+    → cond p (steps.Fault kinds.Decimal 0) (cond q (steps.Token kind len) (steps.Fault kinds.Number 0)) ≡ steps.Token read n → len ≡ n
 token_len true q kind len read n is = absurd (cc)
 token_len false true kind len read n is = cc
 token_len false false kind len read n is = absurd (cc)

@@ -1,5 +1,6 @@
 -- What stands at the front of a text is read, and what is read stands there.
-use Rattle.std.proofs.Common.{◌≡◌, ◌⊎◌, ℕ, zero, suc, ◌+◌, ◌<◌, true, false, eqb, ltb, ◌*◌, ◌^◌, List, [], ◌∷◌, ◌++◌, length, take, drop, slice_index, refl, sym, ◌∙◌, ap, subst, inl, inr, arith, Bool, cond, map, length-append, append_assoc}
+use Rattle.std.proofs.Common.{◌≡◌, ◌⊎◌, ℕ, zero, suc, ◌+◌, ◌<◌, true, false, eqb, ltb, ◌*◌, ◌^◌, List, [], ◌∷◌, ◌++◌, length, take, drop, slice_index, refl}
+use Rattle.std.proofs.Common.{sym, ◌∙◌, ap, subst, inl, inr, arith, Bool, cond, map, length-append, append_assoc}
 use Rattle.std.proofs.lemmas.Bool.{cases_Bool, and_parts, or_cases, and_right, true≢false, eqb-true, or_right, eq-eqb}
 use Rattle.std.proofs.lemmas.Bool.Decides.{nat_tests}
 use Rattle.std.specs.Char.{is_ascii_digit, is_digit, digit_value}
@@ -101,7 +102,8 @@ escape_next text place has =
     let to = to_next has.0 text (92 ∷ has.1 ∷ has.2) place has.3 (quote_differs has.0 92 is (λ e. omega arith) (λ e. omega arith)) in
     to.next_is ∙ escape_met to.kind text place has
 
-end_differs : (quote : ℕ) (rest : List ℕ) → is_quote quote ≡ true → ((rest ≡ []) ⊎ ((rest ≡ 92 ∷ []) ⊎ ((more : List ℕ) × (rest ≡ 10 ∷ more)))) → eqb (slice_index rest 0) quote ≡ false
+end_differs : (quote : ℕ) (rest : List ℕ) → is_quote quote ≡ true → ((rest ≡ []) ⊎ ((rest ≡ 92 ∷ []) ⊎ ((more : List ℕ) × (rest ≡ 10 ∷ more))))
+    → eqb (slice_index rest 0) quote ≡ false
 end_differs quote rest is end =
     elim end [
       | inl nil ↦ ap (λ (l : List ℕ). eqb (slice_index l 0) quote) nil ∙ quote_differs quote 0 is (λ e. omega arith) (λ e. omega arith)
@@ -150,11 +152,13 @@ digit_integer byte is =
     let fits : ltb (0 * 10 + digit_value byte) (2 ^ 63) ≡ true = grind (arith, nat_tests) in
     rw (and_right (eqb byte 48) false refl, digit, fits) refl
 
-nothing_by : (byte : ℕ) (bytes : List ℕ) (n : ℕ) → ((kind : TokenKind) (more : List ℕ) → ¬ Spells kind (byte ∷ more)) → symbol_len byte (slice_index bytes 0) (slice_index bytes 1) ≡ n → symbol_of n ≡ steps.Fault kinds.Character 0
+nothing_by : (byte : ℕ) (bytes : List ℕ) (n : ℕ) → ((kind : TokenKind) (more : List ℕ) → ¬ Spells kind (byte ∷ more))
+    → symbol_len byte (slice_index bytes 0) (slice_index bytes 1) ≡ n → symbol_of n ≡ steps.Fault kinds.Character 0
 nothing_by byte bytes zero none is = refl
 nothing_by byte bytes (suc n) none is = absurd (none Symbol (take n bytes) (symbol_found (byte ∷ bytes) (suc n) (omega arith) is (omega arith)).0)
 
-nothing_symbol : (byte : ℕ) (bytes : List ℕ) → ((kind : TokenKind) (more : List ℕ) → ¬ Spells kind (byte ∷ more)) → symbol (byte ∷ bytes) ≡ steps.Fault kinds.Character 0
+nothing_symbol : (byte : ℕ) (bytes : List ℕ) → ((kind : TokenKind) (more : List ℕ) → ¬ Spells kind (byte ∷ more))
+    → symbol (byte ∷ bytes) ≡ steps.Fault kinds.Character 0
 unfolding symbol
 nothing_symbol byte bytes none =
     elim (cases_Bool (eqb byte 46)) [
@@ -163,12 +167,17 @@ nothing_symbol byte bytes none =
     ]
 
 -- each byte that begins something else begins white space or a token
-by_begin : (begin : Begin) (byte : ℕ) (bytes : List ℕ) → begin_of byte ≡ begin → is_space byte ≡ false → ((kind : TokenKind) (more : List ℕ) → ¬ Spells kind (byte ∷ more)) → at_begin begin (byte ∷ bytes) ≡ steps.Fault kinds.Character 0
+by_begin : (begin : Begin) (byte : ℕ) (bytes : List ℕ) → begin_of byte ≡ begin → is_space byte ≡ false
+    → ((kind : TokenKind) (more : List ℕ) → ¬ Spells kind (byte ∷ more)) → at_begin begin (byte ∷ bytes) ≡ steps.Fault kinds.Character 0
 by_begin begins.Space byte bytes is isnt none = absurd (true≢false (sym (begin_is byte begins.Space is) ∙ isnt))
 by_begin begins.Word byte bytes is isnt none = absurd (none _ [] (word_spells (byte ∷ []) (rw (begin_is byte begins.Word is) refl)))
 by_begin begins.Number byte bytes is isnt none = absurd (none Int [] (digit_integer byte (begin_is byte begins.Number is)))
 by_begin begins.Name byte bytes is isnt none =
-    absurd (none Quoted (97 ∷ 39 ∷ []) (97 ∷ [], (plain 97 ∷ [], ap (λ (x : ℕ). x ∷ 97 ∷ 39 ∷ []) (begin_is byte begins.Name is), (refl, tt), refl), omega arith))
+    absurd (none Quoted (97 ∷ 39 ∷ []) (
+      97 ∷ [],
+      (plain 97 ∷ [], ap (λ (x : ℕ). x ∷ 97 ∷ 39 ∷ []) (begin_is byte begins.Name is), (refl, tt), refl),
+      omega arith,
+    ))
 by_begin begins.String byte bytes is isnt none = absurd (none Str (34 ∷ []) ([], ([], ap (λ (x : ℕ). x ∷ 34 ∷ []) (begin_is byte begins.String is), tt, refl)))
 by_begin begins.Slash byte bytes is isnt none = absurd (none Symbol [] (rw (begin_is byte begins.Slash is) refl))
 by_begin begins.Symbol byte bytes is isnt none = nothing_symbol byte bytes none
@@ -194,7 +203,8 @@ wrong_next kinds.Decimal text place wrong =
       | inl decimal ↦ decimal_next text decimal ∙ ap (λ (p : ℕ). steps.Fault kinds.Decimal p) (sym wrong.1)
       | inr dot ↦ dot_next text dot ∙ ap (λ (p : ℕ). steps.Fault kinds.Decimal p) (sym wrong.1)
     ]
-wrong_next kinds.CommentEnd text place wrong = open_next text wrong.0.0 wrong.0.1 ∙ open_met text wrong.0 ∙ ap (λ (p : ℕ). steps.Fault kinds.CommentEnd p) (sym wrong.1)
+wrong_next kinds.CommentEnd text place wrong =
+    open_next text wrong.0.0 wrong.0.1 ∙ open_met text wrong.0 ∙ ap (λ (p : ℕ). steps.Fault kinds.CommentEnd p) (sym wrong.1)
 wrong_next kinds.Encoding text place wrong = absurd wrong
 
 -- ---- blanks
@@ -206,9 +216,11 @@ first_slash (byte ∷ bytes) is = next_at (byte ∷ bytes) begins.Slash (omega a
 pub blank_next : (bytes after : List ℕ) → IsBlank bytes after → next (bytes ++ after) ≡ steps.Blank (length bytes)
 blank_next bytes after blank =
     elim blank [
-      | inl space ↦ subst (λ (b : List ℕ). next (b ++ after) ≡ steps.Blank (length b)) (sym space.1) (next_at (space.0 ∷ after) begins.Space (omega arith) (begin_space space.0 space.2))
+      | inl space ↦ subst (λ (b : List ℕ). next (b ++ after) ≡ steps.Blank (length b)) (sym space.1)
+          (next_at (space.0 ∷ after) begins.Space (omega arith) (begin_space space.0 space.2))
       | inr (inl line) ↦ first_slash (bytes ++ after) (subst (λ (b : List ℕ). slice_index (b ++ after) 0 ≡ 47) (sym line.1) refl) ∙ line_met bytes after line
-      | inr (inr block) ↦ first_slash (bytes ++ after) (subst (λ (b : List ℕ). slice_index (b ++ after) 0 ≡ 47) (sym block.1) refl) ∙ block_met bytes after block
+      | inr (inr block) ↦ first_slash (bytes ++ after) (subst (λ (b : List ℕ). slice_index (b ++ after) 0 ≡ 47) (sym block.1) refl)
+          ∙ block_met bytes after block
     ]
 
 -- ---- what is read stands there
@@ -228,10 +240,12 @@ digit_stands byte bytes is =
     number_stands (byte ∷ bytes) digit (no_slash byte bytes (grind (arith, nat_tests)))
 
 -- a quoted text is a token
-spelled_quoted : (quote : ℕ) (text : List ℕ) (n : ℕ) (at : QuotedAt quote text n) → IsQuoted quote (quote ∷ (spellings at.letters ++ quote ∷ [])) (map meaning at.letters)
+spelled_quoted : (quote : ℕ) (text : List ℕ) (n : ℕ) (at : QuotedAt quote text n)
+    → IsQuoted quote (quote ∷ (spellings at.letters ++ quote ∷ [])) (map meaning at.letters)
 spelled_quoted quote text n at = (at.letters, refl, at.are_letters, refl)
 
-quoted_token : (kind : TokenKind) (quote : ℕ) (text : List ℕ) (n : ℕ) (at : QuotedAt quote text n) → Spells kind (quote ∷ (spellings at.letters ++ quote ∷ [])) → eqb quote 47 ≡ false → TokenAt kind text n
+quoted_token : (kind : TokenKind) (quote : ℕ) (text : List ℕ) (n : ℕ) (at : QuotedAt quote text n) → Spells kind (quote ∷ (spellings at.letters ++ quote ∷ []))
+    → eqb quote 47 ≡ false → TokenAt kind text n
 quoted_token kind quote text n at spelled isnt = record {
   bytes = quote ∷ (spellings at.letters ++ quote ∷ []);
   after = at.after;
@@ -245,10 +259,12 @@ string_stands : (byte : ℕ) (bytes : List ℕ) → begin_of byte ≡ begins.Str
 unfolding string
 string_stands byte bytes is =
     let step : Step = quoted Str 34 1 0 bytes in
-    subst (λ b. Stands (b ∷ bytes) step) (sym (begin_is byte begins.String is)) (quoted_stands Str 34 bytes refl (λ n at. quoted_token Str 34 (34 ∷ bytes) n at (map meaning at.letters, spelled_quoted 34 (34 ∷ bytes) n at) refl))
+    subst (λ b. Stands (b ∷ bytes) step) (sym (begin_is byte begins.String is))
+    (quoted_stands Str 34 bytes refl (λ n at. quoted_token Str 34 (34 ∷ bytes) n at (map meaning at.letters, spelled_quoted 34 (34 ∷ bytes) n at) refl))
 
 -- a name that begins with no quote has letters
-name_letters : (bytes : List ℕ) (letters : List Letter) (after : List ℕ) → 39 ∷ bytes ≡ 39 ∷ (spellings letters ++ 39 ∷ after) → eqb (slice_index bytes 0) 39 ≡ false → 0 < length (map meaning letters)
+name_letters : (bytes : List ℕ) (letters : List Letter) (after : List ℕ) → 39 ∷ bytes ≡ 39 ∷ (spellings letters ++ 39 ∷ after)
+    → eqb (slice_index bytes 0) 39 ≡ false → 0 < length (map meaning letters)
 name_letters bytes [] after is isnt =
     let first : slice_index bytes 0 ≡ 39 = ap (λ (l : List ℕ). slice_index l 1) is in
     absurd (true≢false (sym (eq-eqb (slice_index bytes 0) 39 first) ∙ isnt))
@@ -258,10 +274,12 @@ second_quote : (bytes : List ℕ) → eqb (slice_index bytes 0) 39 ≡ true → 
 second_quote [] is = absurd (true≢false (sym is))
 second_quote (b ∷ bytes) is = (bytes, ap (λ (x : ℕ). 39 ∷ x ∷ bytes) (eqb-true b 39 is))
 
-name_choice : (bytes : List ℕ) (empty : Bool) → eqb (slice_index bytes 0) 39 ≡ empty → Stands (39 ∷ bytes) (cond empty (steps.Fault kinds.Character 0) (quoted Quoted 39 1 0 bytes))
+name_choice : (bytes : List ℕ) (empty : Bool) → eqb (slice_index bytes 0) 39 ≡ empty
+    → Stands (39 ∷ bytes) (cond empty (steps.Fault kinds.Character 0) (quoted Quoted 39 1 0 bytes))
 name_choice bytes true is = inr (inr (second_quote bytes is, refl))
 name_choice bytes false is =
-    quoted_stands Quoted 39 bytes refl (λ n at. quoted_token Quoted 39 (39 ∷ bytes) n at (map meaning at.letters, spelled_quoted 39 (39 ∷ bytes) n at, name_letters bytes at.letters at.after at.text_is is) refl)
+    quoted_stands Quoted 39 bytes refl (λ n at. quoted_token Quoted 39 (39 ∷ bytes) n at
+    (map meaning at.letters, spelled_quoted 39 (39 ∷ bytes) n at, name_letters bytes at.letters at.after at.text_is is) refl)
 
 name_stands : (byte : ℕ) (bytes : List ℕ) → begin_of byte ≡ begins.Name → Stands (byte ∷ bytes) (name (byte ∷ bytes))
 unfolding name
@@ -280,7 +298,8 @@ begins_none byte tells none Int more spells = true≢false (sym (integer_begins 
 begins_none byte tells none Dec more spells = true≢false (sym (decimal_begins (byte ∷ more) [] spells) ∙ tells.2)
 begins_none byte tells none Symbol more spells = none (symbol_first byte more spells)
 
-symbol_by : (byte : ℕ) (bytes : List ℕ) (n : ℕ) → Tells byte begins.Symbol → symbol_len byte (slice_index bytes 0) (slice_index bytes 1) ≡ n → Stands (byte ∷ bytes) (symbol_of n)
+symbol_by : (byte : ℕ) (bytes : List ℕ) (n : ℕ) → Tells byte begins.Symbol → symbol_len byte (slice_index bytes 0) (slice_index bytes 1) ≡ n
+    → Stands (byte ∷ bytes) (symbol_of n)
 symbol_by byte bytes zero tells is =
     inl ((byte, bytes, refl, tells.0, begins_none byte tells (λ one. absurd (omega (arith, symbol_reaches (byte ∷ []) bytes one)))), refl)
 symbol_by byte bytes (suc n) tells is =
@@ -288,7 +307,8 @@ symbol_by byte bytes (suc n) tells is =
     let positive : eqb (suc n) 0 ≡ false = grind (arith, nat_tests) in
     rw positive (first_bytes Symbol (byte ∷ bytes) (suc n) found.1 found.0 (no_slash byte bytes tells.5))
 
-symbol_choice : (byte : ℕ) (bytes : List ℕ) (dot : Bool) → Tells byte begins.Symbol → is_dot_digit (byte ∷ bytes) ≡ dot → Stands (byte ∷ bytes) (cond dot (steps.Fault kinds.Decimal 0) (symbol_of (symbol_len byte (slice_index bytes 0) (slice_index bytes 1))))
+symbol_choice : (byte : ℕ) (bytes : List ℕ) (dot : Bool) → Tells byte begins.Symbol → is_dot_digit (byte ∷ bytes) ≡ dot
+    → Stands (byte ∷ bytes) (cond dot (steps.Fault kinds.Decimal 0) (symbol_of (symbol_len byte (slice_index bytes 0) (slice_index bytes 1))))
 symbol_choice byte bytes true tells is = (or_right (is_bad_decimal (byte ∷ bytes)) _ is, refl)
 symbol_choice byte bytes false tells is = symbol_by byte bytes (symbol_len byte (slice_index bytes 0) (slice_index bytes 1)) tells refl
 
@@ -299,7 +319,8 @@ symbol_stands byte bytes is = symbol_choice byte bytes (is_dot_digit (byte ∷ b
 -- ---- all
 
 stands_at : (begin : Begin) (byte : ℕ) (bytes : List ℕ) → begin_of byte ≡ begin → Stands (byte ∷ bytes) (at_begin begin (byte ∷ bytes))
-stands_at begins.Space byte bytes is = record { bytes = byte ∷ []; after = bytes; text_is = refl; is_blank = inl (byte, refl, begin_is byte begins.Space is); length_is = refl }
+stands_at begins.Space byte bytes is =
+    record { bytes = byte ∷ []; after = bytes; text_is = refl; is_blank = inl (byte, refl, begin_is byte begins.Space is); length_is = refl }
 stands_at begins.Word byte bytes is = word_stands byte bytes is
 stands_at begins.Number byte bytes is = digit_stands byte bytes is
 stands_at begins.Name byte bytes is = name_stands byte bytes is

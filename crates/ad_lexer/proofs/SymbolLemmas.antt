@@ -1,5 +1,6 @@
 -- The symbol at the front of a text.
-use Rattle.std.proofs.Common.{◌≡◌, ◌⊎◌, ℕ, ◌<◌, ◌≤◌, Bool, true, false, cond, eqb, ltb, leb, not, ◌&&◌, ◌||◌, List, [], ◌∷◌, ◌++◌, length, take, slice_index, refl, sym, subst, inl, inr, arith}
+use Rattle.std.proofs.Common.{◌≡◌, ◌⊎◌, ℕ, ◌<◌, ◌≤◌, Bool, true, false, cond, eqb, ltb, leb, not, ◌&&◌, ◌||◌, List, [], ◌∷◌, ◌++◌, length, take, slice_index}
+use Rattle.std.proofs.Common.{refl, sym, subst, inl, inr, arith}
 use Rattle.std.proofs.lemmas.Bool.{and_parts, true≢false}
 use Rattle.std.proofs.lemmas.Bool.Decides.{nat_tests}
 use Rattle.std.proofs.lemmas.Slice.Eq.{bytes_eq-Decides}
@@ -56,7 +57,8 @@ three_at_least : (p q r : Bool) → p ≡ true → 3 ≤ cond p 3 (cond q 2 (con
 three_at_least p q r is = grind (arith, nat_tests)
 
 -- a symbol is no longer than the longest that stands there
-pub symbol_reaches : (bytes after : List ℕ) → is_symbol bytes ≡ true → length bytes ≤ symbol_len (slice_index (bytes ++ after) 0) (slice_index (bytes ++ after) 1) (slice_index (bytes ++ after) 2)
+pub symbol_reaches : (bytes after : List ℕ) → is_symbol bytes ≡ true
+    → length bytes ≤ symbol_len (slice_index (bytes ++ after) 0) (slice_index (bytes ++ after) 1) (slice_index (bytes ++ after) 2)
 unfolding symbol_len
 symbol_reaches [] after is = absurd (true≢false (sym is))
 symbol_reaches (a ∷ []) after is = one_at_least _ _ _ is
@@ -72,7 +74,8 @@ lengths false false true n is some = inr (inr (sym is, refl))
 lengths false false false n is some = absurd (omega arith)
 
 -- the longest symbol that stands there is one
-pub symbol_found : (text : List ℕ) (n : ℕ) → 0 < length text → symbol_len (slice_index text 0) (slice_index text 1) (slice_index text 2) ≡ n → 0 < n → (is_symbol (take n text) ≡ true) × (n ≤ length text)
+pub symbol_found : (text : List ℕ) (n : ℕ) → 0 < length text → symbol_len (slice_index text 0) (slice_index text 1) (slice_index text 2) ≡ n → 0 < n
+    → (is_symbol (take n text) ≡ true) × (n ≤ length text)
 unfolding symbol_len
 symbol_found [] n some is found = absurd (omega arith)
 symbol_found (a ∷ []) n some is found =

@@ -1,5 +1,6 @@
 -- Whole texts: one token list or one fault, and not both, and how far a text was divided. Nothing here knows of the kinds of tokens.
-use Rattle.std.proofs.Common.{◌≡◌, ◌⊎◌, ℕ, zero, suc, ◌<◌, ◌≤◌, false, List, map, length, take, slice_index, IsUtf8, sym, ◌∙◌, subst, inl, inr, arith, take_all, ◌+◌, [], ◌∷◌, ◌++◌, refl, ap, length-append, ◌-◌, true, drop, Option, Result, Ok, Err, append_assoc}
+use Rattle.std.proofs.Common.{◌≡◌, ◌⊎◌, ℕ, zero, suc, ◌<◌, ◌≤◌, false, List, map, length, take, slice_index, IsUtf8, sym, ◌∙◌, subst, inl, inr, arith, take_all}
+use Rattle.std.proofs.Common.{◌+◌, [], ◌∷◌, ◌++◌, refl, ap, length-append, ◌-◌, true, drop, Option, Result, Ok, Err, append_assoc}
 use Rattle.std.proofs.lemmas.Bool.{cases_Bool, cases_lt, true≢false, le-leb}
 use Rattle.std.proofs.lemmas.Str.{IsUtf8-from_is_utf8, is_utf8-from_IsUtf8, IsUtf8-nil, utf8_valid_len-IsValidUpTo}
 use Rattle.std.specs.Str.{IsValidUpTo, is_utf8}
@@ -67,7 +68,12 @@ utf8_cases text =
             record {
               short = elim (cases_lt found.len (length text)) [ inl short ↦ short | inr most ↦ absurd (none (whole_is text found.len most found.front)) ];
               front = found.front;
-              longest = λ m above is. elim (cases_lt (length text) m) [ inl past ↦ none (whole_is text m (omega arith) is) | inr within ↦ found.above m above within is ];
+              longest =
+                  λ m above is. elim (cases_lt (length text) m) [
+                    | inl past ↦ none (whole_is text m (omega arith) is)
+                    | inr within ↦ found.above m above within
+                        is
+                  ];
             },
           )
     ]
@@ -93,10 +99,12 @@ pub record SameDivision (items others : List Item) (rest other_rest : List ℕ) 
   pub rest_same : rest ≡ other_rest
 
 -- a text divides in one way up to where it goes no further
-pub divides_same : (items others : List Item) (text other_text rest other_rest : List ℕ) → text ≡ other_text → Divides text items rest → Divides other_text others other_rest → IsLast (next rest) → IsLast (next other_rest) → SameDivision items others rest other_rest
+pub divides_same : (items others : List Item) (text other_text rest other_rest : List ℕ) → text ≡ other_text → Divides text items rest
+    → Divides other_text others other_rest → IsLast (next rest) → IsLast (next other_rest) → SameDivision items others rest other_rest
 divides_same [] [] text other_text rest other_rest same a b last other_last = record { items_same = refl; rest_same = sym a ∙ same ∙ b }
 divides_same [] (other ∷ others) text other_text rest other_rest same a b last other_last = absurd (stuck rest other b.0 (sym a ∙ same ∙ b.1) b.2 last)
-divides_same (item ∷ items) [] text other_text rest other_rest same a b last other_last = absurd (stuck other_rest item a.0 (sym b ∙ sym same ∙ a.1) a.2 other_last)
+divides_same (item ∷ items) [] text other_text rest other_rest same a b last other_last =
+    absurd (stuck other_rest item a.0 (sym b ∙ sym same ∙ a.1) a.2 other_last)
 divides_same (item ∷ items) (other ∷ others) text other_text rest other_rest same a b last other_last =
     let joined : bytes_of item ++ a.0 ≡ bytes_of other ++ b.0 = sym a.1 ∙ same ∙ b.1 in
     let items_same : item ≡ other = item_same item other a.0 b.0 joined a.2 b.2 in
@@ -124,10 +132,13 @@ tokens_same text list other a b =
 
 -- ---- and one fault
 
-same_place : (kind other : LexKind) (rest other_rest : List ℕ) (place other_place : ℕ) → rest ≡ other_rest → Wrong kind rest place → Wrong other other_rest other_place → steps.Fault kind place ≡ steps.Fault other other_place
-same_place kind other rest other_rest place other_place same wrong again = sym (wrong_next kind rest place wrong) ∙ ap next same ∙ wrong_next other other_rest other_place again
+same_place : (kind other : LexKind) (rest other_rest : List ℕ) (place other_place : ℕ) → rest ≡ other_rest → Wrong kind rest place
+    → Wrong other other_rest other_place → steps.Fault kind place ≡ steps.Fault other other_place
+same_place kind other rest other_rest place other_place same wrong again =
+    sym (wrong_next kind rest place wrong) ∙ ap next same ∙ wrong_next other other_rest other_place again
 
-has_same : (text : List ℕ) (kind other : LexKind) (place other_place : ℕ) → HasFault text kind place → HasFault text other other_place → (kind ≡ other) × (place ≡ other_place)
+has_same : (text : List ℕ) (kind other : LexKind) (place other_place : ℕ) → HasFault text kind place → HasFault text other other_place
+    → (kind ≡ other) × (place ≡ other_place)
 has_same text kind other place other_place a b =
     let x = a.1 in
     let y = b.1 in
@@ -138,11 +149,13 @@ has_same text kind other place other_place a b =
     let front : length (flat_map bytes_of x.0) ≡ length (flat_map bytes_of y.0) = ap (λ (is : List Item). length (flat_map bytes_of is)) same.items_same in
     (kinds_same, omega (arith, x.5, y.5))
 
-ill_same : (text : List ℕ) (kind other : LexKind) (place other_place : ℕ) → IsIllFormed text kind place → IsIllFormed text other other_place → (kind ≡ other) × (place ≡ other_place)
+ill_same : (text : List ℕ) (kind other : LexKind) (place other_place : ℕ) → IsIllFormed text kind place → IsIllFormed text other other_place
+    → (kind ≡ other) × (place ≡ other_place)
 ill_same text kind other place other_place a b =
     (a.0 ∙ sym b.0, sym (utf8_valid_len-IsValidUpTo text place a.2) ∙ utf8_valid_len-IsValidUpTo text other_place b.2)
 
-pub fault_same : (text : List ℕ) (kind other : LexKind) (place other_place : ℕ) → Fault text kind place → Fault text other other_place → (kind ≡ other) × (place ≡ other_place)
+pub fault_same : (text : List ℕ) (kind other : LexKind) (place other_place : ℕ) → Fault text kind place → Fault text other other_place
+    → (kind ≡ other) × (place ≡ other_place)
 fault_same text kind other place other_place (inl a) (inl b) = ill_same text kind other place other_place a b
 fault_same text kind other place other_place (inl a) (inr b) = absurd (a.1 b.0)
 fault_same text kind other place other_place (inr a) (inl b) = absurd (b.1 a.0)
@@ -167,7 +180,8 @@ pub record Ends (text : List ℕ) : Type 0 where
   pub last : IsLast (next rest)
 
 ends_more : (text : List ℕ) (item : Item) (after : List ℕ) → text ≡ bytes_of item ++ after → IsItem item after → Ends after → Ends text
-ends_more text item after is_text is more = record { items = item ∷ more.items; rest = more.rest; divides = (after, is_text, is, more.divides); last = more.last }
+ends_more text item after is_text is more =
+    record { items = item ∷ more.items; rest = more.rest; divides = (after, is_text, is, more.divides); last = more.last }
 
 -- what follows an item is shorter
 item_some : (item : Item) (after : List ℕ) → IsItem item after → 0 < length (bytes_of item)
@@ -179,16 +193,19 @@ item_some (blank bytes) after is =
     ]
 item_some (token kind bytes) after is = spelled_some kind bytes is.spelled
 
-ends_by : (bound : ℕ) (text : List ℕ) (step : Step) → next text ≡ step → Stands text step → length text ≤ suc bound → ((t : List ℕ) → length t ≤ bound → Ends t) → Ends text
+ends_by : (bound : ℕ) (text : List ℕ) (step : Step) → next text ≡ step → Stands text step → length text ≤ suc bound → ((t : List ℕ) → length t ≤ bound → Ends t)
+    → Ends text
 ends_by bound text steps.End reads stands fits again = record { items = []; rest = text; divides = refl; last = subst IsLast (sym reads) tt }
 ends_by bound text (steps.Fault kind place) reads stands fits again = record { items = []; rest = text; divides = refl; last = subst IsLast (sym reads) tt }
 ends_by bound text (steps.Blank n) reads stands fits again =
     let some = item_some (blank stands.bytes) stands.after stands.is_blank in
-    ends_more text (blank stands.bytes) stands.after stands.text_is stands.is_blank (again stands.after (omega (arith, ap (λ (l : List ℕ). length l) stands.text_is, length-append stands.bytes stands.after)))
+    ends_more text (blank stands.bytes) stands.after stands.text_is stands.is_blank
+    (again stands.after (omega (arith, ap (λ (l : List ℕ). length l) stands.text_is, length-append stands.bytes stands.after)))
 ends_by bound text (steps.Token kind n) reads stands fits again =
     let is = token_found kind text n stands reads in
     let some = item_some (token kind stands.bytes) stands.after is in
-    ends_more text (token kind stands.bytes) stands.after stands.text_is is (again stands.after (omega (arith, ap (λ (l : List ℕ). length l) stands.text_is, length-append stands.bytes stands.after)))
+    ends_more text (token kind stands.bytes) stands.after stands.text_is is
+    (again stands.after (omega (arith, ap (λ (l : List ℕ). length l) stands.text_is, length-append stands.bytes stands.after)))
 
 ends : (bound : ℕ) (text : List ℕ) → length text ≤ bound → Ends text
 ends zero [] fits = record { items = []; rest = []; divides = refl; last = nil_last }
@@ -199,7 +216,8 @@ abbrev pub HasAnswer : List ℕ → Type 0
 HasAnswer text = ((list : List Lexeme) × Tokens text list) ⊎ ((kind : LexKind) × (place : ℕ) × Fault text kind place)
 
 answer_by : (text : List ℕ) (found : Ends text) (step : Step) → IsUtf8 text → next found.rest ≡ step → Stands found.rest step → IsLast step → HasAnswer text
-answer_by text found steps.End utf8 reads stands last = inl (lexemes 0 found.items, (utf8, (found.items, subst (λ (r : List ℕ). Divides text found.items r) stands found.divides, refl)))
+answer_by text found steps.End utf8 reads stands last =
+    inl (lexemes 0 found.items, (utf8, (found.items, subst (λ (r : List ℕ). Divides text found.items r) stands found.divides, refl)))
 answer_by text found (steps.Blank n) utf8 reads stands last = absurd last
 answer_by text found (steps.Token kind n) utf8 reads stands last = absurd last
 answer_by text found (steps.Fault kind place) utf8 reads stands last =
@@ -225,9 +243,11 @@ pub record Reached (text rest : List ℕ) (list : List Lexeme) (at : ℕ) : Type
   pub list_is : list ≡ lexemes 0 items
   pub at_is : at ≡ len_of items
 
-divides_push : (items : List Item) (text rest : List ℕ) (item : Item) (after : List ℕ) → Divides text items rest → rest ≡ bytes_of item ++ after → IsItem item after → Divides text (items ++ item ∷ []) after
+divides_push : (items : List Item) (text rest : List ℕ) (item : Item) (after : List ℕ) → Divides text items rest → rest ≡ bytes_of item ++ after
+    → IsItem item after → Divides text (items ++ item ∷ []) after
 divides_push [] text rest item after divides begins is = (after, divides ∙ begins, is, refl)
-divides_push (first ∷ items) text rest item after divides begins is = (divides.0, divides.1, divides.2, divides_push items divides.0 rest item after divides.3 begins is)
+divides_push (first ∷ items) text rest item after divides begins is =
+    (divides.0, divides.1, divides.2, divides_push items divides.0 rest item after divides.3 begins is)
 
 lexemes_push : (at : ℕ) (items : List Item) (item : Item) → lexemes at (items ++ item ∷ []) ≡ lexemes at items ++ lexemes (at + len_of items) (item ∷ [])
 lexemes_push at [] item = let e : at ≡ at + 0 = omega arith in ap (λ (n : ℕ). lexemes n (item ∷ [])) e
@@ -237,29 +257,40 @@ lexemes_push at (blank bytes ∷ items) item =
 lexemes_push at (token kind bytes ∷ items) item =
     let e : at + length bytes + len_of items ≡ at + length (bytes ++ flat_map bytes_of items) = omega (arith, length-append bytes (flat_map bytes_of items)) in
     let first : Lexeme = record { kind = kind; start = at; end = at + length bytes; text = bytes } in
-    ap (λ (l : List Lexeme). first ∷ l) (lexemes_push (at + length bytes) items item ∙ ap (λ (n : ℕ). lexemes (at + length bytes) items ++ lexemes n (item ∷ [])) e)
+    ap (λ (l : List Lexeme). first ∷ l) (lexemes_push (at + length bytes) items item
+    ∙ ap (λ (n : ℕ). lexemes (at + length bytes) items ++ lexemes n (item ∷ [])) e)
 
 len_push : (items : List Item) (item : Item) → len_of (items ++ item ∷ []) ≡ len_of items + length (bytes_of item)
 len_push [] item = ap (λ (l : List ℕ). length l) (append-nil (bytes_of item)) ∙ (let e : length (bytes_of item) ≡ 0 + length (bytes_of item) = omega arith in e)
-len_push (first ∷ items) item = omega (arith, len_push items item, length-append (bytes_of first) (flat_map bytes_of items), length-append (bytes_of first) (flat_map bytes_of (items ++ item ∷ [])))
+len_push (first ∷ items) item =
+    omega (
+      arith,
+      len_push items item,
+      length-append (bytes_of first) (flat_map bytes_of items),
+      length-append (bytes_of first) (flat_map bytes_of (items ++ item ∷ [])),
+    )
 
 -- the bytes behind an item
 behind : (rest bytes after : List ℕ) (n : ℕ) → rest ≡ bytes ++ after → length bytes ≡ n → after ≡ drop n rest
 behind rest bytes after n begins len = sym (drop_at bytes after n len) ∙ ap (λ (l : List ℕ). drop n l) (sym begins)
 
-pub reached_blank : (text rest : List ℕ) (list : List Lexeme) (at n : ℕ) → Reached text rest list at → steps.Blank n ≡ next rest → Reached text (drop n rest) list (at + n)
+pub reached_blank : (text rest : List ℕ) (list : List Lexeme) (at n : ℕ) → Reached text rest list at → steps.Blank n ≡ next rest
+    → Reached text (drop n rest) list (at + n)
 reached_blank text rest list at n reached reads =
     let here : Stands rest (steps.Blank n) = subst (λ s. Stands rest s) (sym reads) (next_stands rest) in
     let item : Item = blank here.bytes in
     record {
       items = reached.items ++ item ∷ [];
-      divides = subst (λ (l : List ℕ). Divides text (reached.items ++ item ∷ []) l) (behind rest here.bytes here.after n here.text_is here.length_is) (divides_push reached.items text rest item here.after reached.divides here.text_is here.is_blank);
+      divides =
+          subst (λ (l : List ℕ). Divides text (reached.items ++ item ∷ []) l) (behind rest here.bytes here.after n here.text_is here.length_is)
+          (divides_push reached.items text rest item here.after reached.divides here.text_is here.is_blank);
       list_is = reached.list_is ∙ sym (lexemes_push 0 reached.items item ∙ append-nil (lexemes 0 reached.items));
       at_is = omega (arith, reached.at_is, here.length_is, len_push reached.items item);
     }
 
 -- a place of the text further on
-pub reached_on : (text : List ℕ) (list : List Lexeme) (at n : ℕ) → Reached text (drop n (drop at text)) list (at + n) → Reached text (drop (at + n) text) list (at + n)
+pub reached_on : (text : List ℕ) (list : List Lexeme) (at n : ℕ) → Reached text (drop n (drop at text)) list (at + n)
+    → Reached text (drop (at + n) text) list (at + n)
 reached_on text list at n reached = subst (λ (l : List ℕ). Reached text l list (at + n)) (drop-drop n at text) reached
 
 blank_at : (text : List ℕ) → slice_index text 0 ≡ 32 → next text ≡ steps.Blank 1
@@ -267,17 +298,20 @@ blank_at [] is = absurd (omega arith)
 blank_at (byte ∷ bytes) is = blank_next (byte ∷ []) bytes (inl (byte, refl, rw is refl))
 
 -- a blank behind a place is passed
-pub reached_past : (text : List ℕ) (list : List Lexeme) (at later : ℕ) → Reached text (drop at text) list at → PassesBlank text at later → Reached text (drop later text) list later
+pub reached_past : (text : List ℕ) (list : List Lexeme) (at later : ℕ) → Reached text (drop at text) list at → PassesBlank text at later
+    → Reached text (drop later text) list later
 reached_past text list at later reached (inl same) = subst (λ (n : ℕ). Reached text (drop n text) list n) (sym same) reached
 reached_past text list at later reached (inr past) =
     let place : at + 0 ≡ at = omega arith in
     let reads = blank_at (drop at text) (get_or-drop at text 0 0 ∙ ap (λ (n : ℕ). slice_index text n) place ∙ past.0) in
-    subst (λ (n : ℕ). Reached text (drop n text) list n) (sym past.1) (reached_on text list at 1 (reached_blank text (drop at text) list at 1 reached (sym reads)))
+    subst (λ (n : ℕ). Reached text (drop n text) list n) (sym past.1)
+    (reached_on text list at 1 (reached_blank text (drop at text) list at 1 reached (sym reads)))
 
 abbrev pub lexeme_at : TokenKind → ℕ → ℕ → List ℕ → Lexeme
 lexeme_at kind start end text = record { kind = kind; start = start; end = end; text = text }
 
-lexeme_same : (kind : TokenKind) (start begin end stop : ℕ) (text bytes : List ℕ) → start ≡ begin → end ≡ stop → text ≡ bytes → lexeme_at kind start end text ≡ lexeme_at kind begin stop bytes
+lexeme_same : (kind : TokenKind) (start begin end stop : ℕ) (text bytes : List ℕ) → start ≡ begin → end ≡ stop → text ≡ bytes
+    → lexeme_at kind start end text ≡ lexeme_at kind begin stop bytes
 lexeme_same kind start begin end stop text bytes starts ends texts = cc
 
 pub reached_token : (text rest : List ℕ) (list : List Lexeme) (at : ℕ) (kind : TokenKind) (n : ℕ) → Reached text rest list at → steps.Token kind n ≡ next rest
@@ -288,13 +322,18 @@ reached_token text rest list at kind n reached reads =
     let is = token_found kind rest n here (sym reads) in
     record {
       items = reached.items ++ item ∷ [];
-      divides = subst (λ (l : List ℕ). Divides text (reached.items ++ item ∷ []) l) (behind rest here.bytes here.after n here.text_is here.length_is) (divides_push reached.items text rest item here.after reached.divides here.text_is is);
+      divides =
+          subst (λ (l : List ℕ). Divides text (reached.items ++ item ∷ []) l) (behind rest here.bytes here.after n here.text_is here.length_is)
+          (divides_push reached.items text rest item here.after reached.divides here.text_is is);
       list_is =
           let starts : at ≡ 0 + len_of reached.items = omega (arith, reached.at_is) in
           let ends : at + n ≡ 0 + len_of reached.items + length here.bytes = omega (arith, reached.at_is, here.length_is) in
           let text_same : take n rest ≡ here.bytes = ap (λ (l : List ℕ). take n l) here.text_is ∙ take_at here.bytes here.after n here.length_is in
-          let same = lexeme_same kind at (0 + len_of reached.items) (at + n) (0 + len_of reached.items + length here.bytes) (take n rest) here.bytes starts ends text_same in
-          ap (λ (l : List Lexeme). l ++ lexeme_at kind at (at + n) (take n rest) ∷ []) reached.list_is ∙ ap (λ (x : Lexeme). lexemes 0 reached.items ++ x ∷ []) same ∙ sym (lexemes_push 0 reached.items item);
+          let same =
+          lexeme_same kind at (0 + len_of reached.items) (at + n) (0 + len_of reached.items + length here.bytes) (take n rest) here.bytes starts ends
+          text_same in
+          ap (λ (l : List Lexeme). l ++ lexeme_at kind at (at + n) (take n rest) ∷ []) reached.list_is
+          ∙ ap (λ (x : Lexeme). lexemes 0 reached.items ++ x ∷ []) same ∙ sym (lexemes_push 0 reached.items item);
       at_is = omega (arith, reached.at_is, here.length_is, len_push reached.items item);
     }
 
@@ -303,28 +342,33 @@ reached_token text rest list at kind n reached reads =
 divides_joined : (items : List Item) (text rest : List ℕ) → Divides text items rest → text ≡ flat_map bytes_of items ++ rest
 divides_joined [] text rest divides = divides
 divides_joined (item ∷ items) text rest divides =
-    divides.1 ∙ ap (λ (l : List ℕ). bytes_of item ++ l) (divides_joined items divides.0 rest divides.3) ∙ sym (append_assoc (bytes_of item) (flat_map bytes_of items) rest)
+    divides.1 ∙ ap (λ (l : List ℕ). bytes_of item ++ l) (divides_joined items divides.0 rest divides.3)
+    ∙ sym (append_assoc (bytes_of item) (flat_map bytes_of items) rest)
 
 -- the front of the rest is a slice of the text
 reached_slice : (text rest : List ℕ) (list : List Lexeme) (at n : ℕ) → Reached text rest list at → slice_range text at (at + n) ≡ take n rest
 reached_slice text rest list at n reached =
     let gone : drop at text ≡ rest =
-    ap (λ (l : List ℕ). drop at l) (divides_joined reached.items text rest reached.divides) ∙ drop_at (flat_map bytes_of reached.items) rest at (sym reached.at_is) in
+    ap (λ (l : List ℕ). drop at l) (divides_joined reached.items text rest reached.divides)
+    ∙ drop_at (flat_map bytes_of reached.items) rest at (sym reached.at_is) in
     let len : at + n - at ≡ n = omega arith in
     ap (λ (l : List ℕ). take (at + n - at) l) gone ∙ ap (λ (k : ℕ). take k rest) len
 
 abbrev pub span_at : TokenKind → Option Mark → ℕ → ℕ → Span
 span_at kind mark start end = record { kind = kind; mark = mark; start = start; end = end }
 
-pub reached_span : (text rest : List ℕ) (spans : List Span) (at : ℕ) (kind : TokenKind) (mark : Option Mark) (n : ℕ) → Reached text rest (lexemes_of text spans) at → steps.Token kind n ≡ next rest
+pub reached_span : (text rest : List ℕ) (spans : List Span) (at : ℕ) (kind : TokenKind) (mark : Option Mark) (n : ℕ)
+    → Reached text rest (lexemes_of text spans) at → steps.Token kind n ≡ next rest
     → Reached text (drop n rest) (lexemes_of text (spans ++ span_at kind mark at (at + n) ∷ [])) (at + n)
 reached_span text rest spans at kind mark n reached reads =
     let slice : take n rest ≡ slice_range text at (at + n) = sym (reached_slice text rest (lexemes_of text spans) at n reached) in
     let pushed : lexemes_of text spans ++ lexeme_at kind at (at + n) (take n rest) ∷ [] ≡ lexemes_of text (spans ++ span_at kind mark at (at + n) ∷ []) =
-    ap (λ (l : List ℕ). lexemes_of text spans ++ lexeme_at kind at (at + n) l ∷ []) slice ∙ sym (map-append (lexeme_of text) spans (span_at kind mark at (at + n) ∷ [])) in
+    ap (λ (l : List ℕ). lexemes_of text spans ++ lexeme_at kind at (at + n) l ∷ []) slice
+    ∙ sym (map-append (lexeme_of text) spans (span_at kind mark at (at + n) ∷ [])) in
     subst (λ (list : List Lexeme). Reached text (drop n rest) list (at + n)) pushed (reached_token text rest (lexemes_of text spans) at kind n reached reads)
 
-pub marked_push : (text rest : List ℕ) (spans : List Span) (at : ℕ) (kind : TokenKind) (mark : Option Mark) (n : ℕ) → Reached text rest (lexemes_of text spans) at → AreMarked text spans → mark ≡ mark_of_kind kind (take n rest)
+pub marked_push : (text rest : List ℕ) (spans : List Span) (at : ℕ) (kind : TokenKind) (mark : Option Mark) (n : ℕ)
+    → Reached text rest (lexemes_of text spans) at → AreMarked text spans → mark ≡ mark_of_kind kind (take n rest)
     → AreMarked text (spans ++ span_at kind mark at (at + n) ∷ [])
 marked_push text rest spans at kind mark n reached before is =
     let span = span_at kind mark at (at + n) in
@@ -335,7 +379,8 @@ marked_push text rest spans at kind mark n reached before is =
     ∙ sym (map-append mark_of_lexeme (lexemes_of text spans) (lexeme_of text span ∷ []))
     ∙ ap marks_of (sym (map-append (lexeme_of text) spans (span ∷ [])))
 
-pub within_push : (len : ℕ) (spans : List Span) (kind : TokenKind) (mark : Option Mark) (start end : ℕ) → are_within len spans ≡ true → start ≤ end → end ≤ len → are_within len (spans ++ span_at kind mark start end ∷ []) ≡ true
+pub within_push : (len : ℕ) (spans : List Span) (kind : TokenKind) (mark : Option Mark) (start end : ℕ) → are_within len spans ≡ true → start ≤ end → end ≤ len
+    → are_within len (spans ++ span_at kind mark start end ∷ []) ≡ true
 within_push len spans kind mark start end before ordered within =
     rw (list_all-append (is_within len) spans (span_at kind mark start end ∷ []), before, le-leb start end ordered, le-leb end len within) refl
 
@@ -344,7 +389,8 @@ openings_join : (first last : List (Option Mark)) → openings_in (first ++ last
 openings_join [] last = omega arith
 openings_join (m ∷ first) last = omega (arith, openings_join first last)
 
-pub openings_push : (spans : List Span) (kind : TokenKind) (mark : Option Mark) (start end : ℕ) → openings_of (spans ++ span_at kind mark start end ∷ []) ≡ openings_of spans + opening mark
+pub openings_push : (spans : List Span) (kind : TokenKind) (mark : Option Mark) (start end : ℕ)
+    → openings_of (spans ++ span_at kind mark start end ∷ []) ≡ openings_of spans + opening mark
 openings_push spans kind mark start end =
     let marks : List (Option Mark) = map (λ (s : Span). s.mark) spans in
     let joined = ap openings_in (map-append (λ (s : Span). s.mark) spans (span_at kind mark start end ∷ [])) in
@@ -361,7 +407,8 @@ reached_end text rest list at utf8 reached reads =
     let here : rest ≡ [] = subst (λ s. Stands rest s) (sym reads) (next_stands rest) in
     (utf8, (reached.items, subst (λ (l : List ℕ). Divides text reached.items l) here reached.divides, reached.list_is))
 
-pub reached_fault : (text rest : List ℕ) (list : List Lexeme) (at : ℕ) (kind : LexKind) (place : ℕ) → IsUtf8 text → Reached text rest list at → steps.Fault kind place ≡ next rest → Fault text kind (at + place)
+pub reached_fault : (text rest : List ℕ) (list : List Lexeme) (at : ℕ) (kind : LexKind) (place : ℕ) → IsUtf8 text → Reached text rest list at
+    → steps.Fault kind place ≡ next rest → Fault text kind (at + place)
 reached_fault text rest list at kind place utf8 reached reads =
     let here : Stands rest (steps.Fault kind place) = subst (λ s. Stands rest s) (sym reads) (next_stands rest) in
     let e : at + place ≡ len_of reached.items + place = omega (arith, reached.at_is) in
@@ -369,7 +416,8 @@ reached_fault text rest list at kind place utf8 reached reads =
 
 -- ---- what an answer leaves open
 
-pub answers_tokens : (text : List ℕ) (answer : Result (List Lexeme) LexFault) → Answers text answer → (list : List Lexeme) → Tokens text list → IsOrMemory answer (Ok list)
+pub answers_tokens : (text : List ℕ) (answer : Result (List Lexeme) LexFault) → Answers text answer → (list : List Lexeme) → Tokens text list
+    → IsOrMemory answer (Ok list)
 answers_tokens text (Ok found) is list tokens = inl (ap (λ l. Ok l) (tokens_same text found list is tokens))
 answers_tokens text (Err (faults.At kind place)) is list tokens = absurd (not_both text list kind place tokens is)
 answers_tokens text (Err faults.OutOfMemory) is list tokens = inr refl
@@ -377,7 +425,9 @@ answers_tokens text (Err faults.OutOfMemory) is list tokens = inr refl
 fault_by : (kind other : LexKind) (place other_place : ℕ) → (kind ≡ other) × (place ≡ other_place) → faults.At kind place ≡ faults.At other other_place
 fault_by kind other place other_place same = cc (same.0, same.1)
 
-pub answers_fault : (text : List ℕ) (answer : Result (List Lexeme) LexFault) → Answers text answer → (kind : LexKind) (place : ℕ) → Fault text kind place → IsOrMemory answer (Err (faults.At kind place))
+pub answers_fault : (text : List ℕ) (answer : Result (List Lexeme) LexFault) → Answers text answer → (kind : LexKind) (place : ℕ) → Fault text kind place
+    → IsOrMemory answer (Err (faults.At kind place))
 answers_fault text (Ok found) is kind place fault = absurd (not_both text found kind place is fault)
-answers_fault text (Err (faults.At other other_place)) is kind place fault = inl (ap (λ f. Err f) (fault_by other kind other_place place (fault_same text other kind other_place place is fault)))
+answers_fault text (Err (faults.At other other_place)) is kind place fault =
+    inl (ap (λ f. Err f) (fault_by other kind other_place place (fault_same text other kind other_place place is fault)))
 answers_fault text (Err faults.OutOfMemory) is kind place fault = inr refl

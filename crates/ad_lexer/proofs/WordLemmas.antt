@@ -11,13 +11,16 @@ use Rattle.ad_lexer.proofs.Begins.{begin_is, begin_word, word_byte}
 use Rattle.ad_lexer.proofs.Runs.{run_passes}
 
 -- a word of its first byte and the run of a text is a word
-word_from : (byte : ℕ) (bytes : List ℕ) (n : ℕ) → begins_word byte ≡ true → 0 < n → list_all is_word_byte (take n (byte ∷ bytes)) ≡ true → is_word (take n (byte ∷ bytes)) ≡ true
+word_from : (byte : ℕ) (bytes : List ℕ) (n : ℕ) → begins_word byte ≡ true → 0 < n → list_all is_word_byte (take n (byte ∷ bytes)) ≡ true
+    → is_word (take n (byte ∷ bytes)) ≡ true
 word_from byte bytes zero begins some each = absurd (omega arith)
 word_from byte bytes (suc n) begins some each = and_from (begins_word byte) _ begins (and_parts (is_word_byte byte) _ each).1
 
-pub word_found : (text : List ℕ) → 0 < length text → begin_of (slice_index text 0) ≡ begins.Word → 0 < prefix_len is_word_byte text → is_word (take (prefix_len is_word_byte text) text) ≡ true
+pub word_found : (text : List ℕ) → 0 < length text → begin_of (slice_index text 0) ≡ begins.Word → 0 < prefix_len is_word_byte text
+    → is_word (take (prefix_len is_word_byte text) text) ≡ true
 word_found [] some is moves = absurd (omega arith)
-word_found (byte ∷ bytes) some is moves = word_from byte bytes (prefix_len is_word_byte (byte ∷ bytes)) (begin_is byte begins.Word is) moves (run_passes is_word_byte (byte ∷ bytes))
+word_found (byte ∷ bytes) some is moves =
+    word_from byte bytes (prefix_len is_word_byte (byte ∷ bytes)) (begin_is byte begins.Word is) moves (run_passes is_word_byte (byte ∷ bytes))
 
 -- all bytes of a word are its letters, digits and `_`
 pub word_bytes : (bytes : List ℕ) → is_word bytes ≡ true → list_all is_word_byte bytes ≡ true

@@ -2,9 +2,11 @@
 use Rattle.std.specs.Prelude.{ℕ, ◌+◌, List, [], ◌∷◌, map, codes, Option, None, Some, if◌then◌else◌}
 use Rattle.std.specs.Str.{bytes_eq}
 use Rattle.pool_text.specs.Folding.{folded}
-use Rattle.pool_text.specs.declared.language.BinOp.TheVariants.{BitOr, BitXor, BitAnd, Equal, Unequal, Same, NotSame, Less, AtMost, Greater, AtLeast, ShiftLeft, ShiftRight, ShiftZero, Add, Sub, Mul, Div, Rem}
+use Rattle.pool_text.specs.declared.language.BinOp.TheVariants.{BitOr, BitXor, BitAnd, Equal, Unequal, Same, NotSame, Less, AtMost, Greater, AtLeast, ShiftLeft}
+use Rattle.pool_text.specs.declared.language.BinOp.TheVariants.{ShiftRight, ShiftZero, Add, Sub, Mul, Div, Rem}
 use Rattle.ad_lexer.specs.declared.mark.Mark.{Mark}
-use Rattle.ad_lexer.specs.declared.mark.Mark.TheVariants.{OpenParen, CloseParen, OpenBracket, CloseBracket, OpenBrace, CloseBrace, Comma, Semicolon, Dot, Assign, Question, Colon, And, Or, Not, Complement, Binary}
+use Rattle.ad_lexer.specs.declared.mark.Mark.TheVariants.{OpenParen, CloseParen, OpenBracket, CloseBracket, OpenBrace, CloseBrace, Comma, Semicolon, Dot}
+use Rattle.ad_lexer.specs.declared.mark.Mark.TheVariants.{Assign, Question, Colon, And, Or, Not, Complement, Binary}
 use Rattle.ad_lexer.specs.declared.token.TokenKind.{TokenKind}
 use Rattle.ad_lexer.specs.declared.token.TokenKind.TheVariants as kinds
 use Rattle.ad_lexer.specs.Lexeme.{Lexeme}

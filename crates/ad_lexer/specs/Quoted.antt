@@ -1,5 +1,6 @@
 -- Strings and quoted names: letters between two quotes. Byte 34 is `"`, 39 is `'`, 92 is the backslash.
-use Rattle.std.specs.Prelude.{◌≡◌, ℕ, ◌<◌, ◌≤◌, Bool, true, false, not, ◌&&◌, ◌||◌, ◌==◌, nat_le, List, [], ◌∷◌, ◌++◌, length, map, slice_index, Option, Some, None, ◌⊎◌, if◌then◌else◌}
+use Rattle.std.specs.Prelude.{◌≡◌, ℕ, ◌<◌, ◌≤◌, Bool, true, false, not, ◌&&◌, ◌||◌, ◌==◌, nat_le, List, [], ◌∷◌, ◌++◌, length, map, slice_index, Option, Some}
+use Rattle.std.specs.Prelude.{None, ◌⊎◌, if◌then◌else◌}
 use Rattle.std.specs.List.{flat_map, list_all}
 use Rattle.std.specs.Str.Parse.{digits_value}
 

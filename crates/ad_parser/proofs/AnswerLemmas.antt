@@ -1,5 +1,6 @@
 -- Each text has one tree within the limits or one fault, and not both.
-use Rattle.std.proofs.Common.{◌≡◌, ◌⊎◌, ℕ, zero, suc, ◌+◌, ◌-◌, ◌<◌, ◌≤◌, true, false, List, Result, Ok, Err, refl, sym, subst, ap, ◌∙◌, inl, inr, arith}
+use Rattle.std.proofs.Common.{◌≡◌, ◌⊎◌, ℕ, zero, suc, ◌+◌, ◌-◌, ◌<◌, ◌≤◌, true, false, List, Result, Ok, Err, refl, sym, subst}
+use Rattle.std.proofs.Common.{ap, ◌∙◌, inl, inr, arith}
 use Rattle.std.proofs.lemmas.Bool.{cases_Bool, cases_lt, lt-ltb, le-ltb}
 use Rattle.ad_lexer.proofs.Texts as texts
 use Rattle.ad_tree.specs.Inline.{Inline, height, definitions}
@@ -19,7 +20,8 @@ words_same : (text : List ℕ) (ws vs : List Word) → HasWords text ws → HasW
 words_same text ws vs a b = a.are ∙ ap words (texts.tokens_same text a.tokens b.tokens a.has b.has) ∙ sym b.are
 
 -- a tree that is spelled is within the limits, or it is known which it goes beyond first
-pub limited-has : (rule : List Word → Inline → Type 0) (frames : Inline → ℕ) (text : List ℕ) (x : Inline) → Spells rule text x → HasOutcome rule frames text (limited frames x)
+pub limited-has : (rule : List Word → Inline → Type 0) (frames : Inline → ℕ) (text : List ℕ) (x : Inline) → Spells rule text x
+    → HasOutcome rule frames text (limited frames x)
 limited-has rule frames text x s =
     elim (cases_lt height_limit (height x)) [
       | inl high ↦ rw (lt-ltb height_limit (height x) high) ((x, s, high), λ e. absurd cc)
@@ -28,7 +30,8 @@ limited-has rule frames text x s =
             | inl many ↦ rw (le-ltb height_limit (height x) low, lt-ltb frame_limit (frames x) many) ((x, s, low, many), λ e. absurd cc)
             | inr few ↦
                 elim (cases_lt definition_limit (definitions x)) [
-                  | inl more ↦ rw (le-ltb height_limit (height x) low, le-ltb frame_limit (frames x) few, lt-ltb definition_limit (definitions x) more) ((x, s, low, few, more), λ e. absurd cc)
+                  | inl more ↦ rw (le-ltb height_limit (height x) low, le-ltb frame_limit (frames x) few, lt-ltb definition_limit (definitions x) more)
+                      ((x, s, low, few, more), λ e. absurd cc)
                   | inr fewer ↦
                       rw (le-ltb height_limit (height x) low, le-ltb frame_limit (frames x) few, le-ltb definition_limit (definitions x) fewer)
                       (s, record { low = low; few_frames = few; few_definitions = fewer })
@@ -62,7 +65,8 @@ module _ (rule : List Word → Inline → Type 0) (frames : Inline → ℕ) (one
 
   passes_down : (j k : ℕ) (text : List ℕ) → Passes (j + k) text → Passes k text
   passes_down zero k text p = let e : 0 + k ≡ k = omega arith in subst (λ n. Passes n text) e p
-  passes_down (suc j) k text p = let e : suc j + k ≡ suc (j + k) = omega arith in passes_down j k text (passes_before (j + k) text (subst (λ n. Passes n text) e p))
+  passes_down (suc j) k text p =
+      let e : suc j + k ≡ suc (j + k) = omega arith in passes_down j k text (passes_before (j + k) text (subst (λ n. Passes n text) e p))
 
   passes_below : (k n : ℕ) (text : List ℕ) → k ≤ n → Passes n text → Passes k text
   passes_below k n text within p = let e : n ≡ (n - k) + k = omega arith in passes_down (n - k) k text (subst (λ m. Passes m text) e p)
@@ -107,7 +111,8 @@ module _ (rule : List Word → Inline → Type 0) (frames : Inline → ℕ) (one
       above_not (definitions p.0) definition_limit p.2.few_definitions many
   fault_stops faults.OutOfMemory text h p = h.1 refl
 
-  same_place : (fault other : ParseFault) (text : List ℕ) → HasFault rule frames text fault → HasFault rule frames text other → place_of fault ≡ place_of other → fault ≡ other
+  same_place : (fault other : ParseFault) (text : List ℕ) → HasFault rule frames text fault → HasFault rule frames text other
+      → place_of fault ≡ place_of other → fault ≡ other
   same_place (faults.Lex kind place) (faults.Lex other next) text a b e =
       let same = texts.fault_same text kind other place next a.0 b.0 in
       ap (λ k. faults.Lex k place) same.0 ∙ ap (faults.Lex other) same.1
@@ -119,8 +124,10 @@ module _ (rule : List Word → Inline → Type 0) (frames : Inline → ℕ) (one
   same_place faults.OutOfMemory faults.OutOfMemory text a b e = refl
   same_place fault other text a b e = absurd (omega arith)
 
-  not_before : (fault other : ParseFault) (text : List ℕ) → HasFault rule frames text fault → HasFault rule frames text other → place_of fault < place_of other → ⊥
-  not_before fault other text a b before = fault_stops fault text a (passes_below (suc (place_of fault)) (place_of other) text before (fault_passes other text b))
+  not_before : (fault other : ParseFault) (text : List ℕ) → HasFault rule frames text fault → HasFault rule frames text other
+      → place_of fault < place_of other → ⊥
+  not_before fault other text a b before =
+      fault_stops fault text a (passes_below (suc (place_of fault)) (place_of other) text before (fault_passes other text b))
 
   one_fault : (text : List ℕ) (fault other : ParseFault) → HasFault rule frames text fault → HasFault rule frames text other → fault ≡ other
   one_fault text fault other a b =

@@ -1,5 +1,6 @@
 -- Each text has one outcome as an expression and one as an ad, which is that of the functions.
-use Rattle.std.proofs.Common.{◌≡◌, ◌⊎◌, ℕ, Bool, true, false, List, Option, None, Some, Result, Ok, Err, if◌then◌else◌, refl, subst, ap, inl, inr}
+use Rattle.std.proofs.Common.{◌≡◌, ◌⊎◌, ℕ, Bool, true, false, List, Option, None, Some, Result, Ok, Err, if◌then◌else◌, refl, subst, ap}
+use Rattle.std.proofs.Common.{inl, inr}
 use Rattle.ad_tree.specs.declared.ad.Ad.{Ad}
 use Rattle.ad_tree.specs.declared.phrase.Phrase.{Phrase}
 use Rattle.ad_tree.specs.Inline.{Inline}
@@ -10,7 +11,8 @@ use Rattle.ad_grammar.specs.Grammar.{IsExpr, IsRoot}
 use Rattle.ad_grammar.specs.Nesting.{nests_too_deep}
 use Rattle.ad_grammar.specs.Rules.{parsed_expr, parsed_ad}
 use Rattle.ad_parser.specs.OneAnswer.{HasFault, HasOneAnswer}
-use Rattle.ad_parser.specs.Outcomes.{HasOutcome, HasExprOutcome, HasAdOutcome, IsExprAnswer, IsAdAnswer, words_of, read_within, outcome_by, expr_outcome, ad_outcome}
+use Rattle.ad_parser.specs.Outcomes.{HasOutcome, HasExprOutcome, HasAdOutcome, IsExprAnswer, IsAdAnswer, words_of, read_within, outcome_by, expr_outcome}
+use Rattle.ad_parser.specs.Outcomes.{ad_outcome}
 use Rattle.ad_grammar.specs.Words.{Word, words}
 use Rattle.ad_parser.proofs.AnswerLemmas.{limited-has, one_answer}
 use Rattle.ad_parser.proofs.WordsLemmas.{words_of-tokens, words_of-fault}
@@ -21,7 +23,8 @@ use Rattle.ad_grammar.proofs.UniqueLemmas.{expr-one, expr-decided, root-one, roo
 -- ---- one outcome
 
 module _ (rule : List Word → Inline → Type 0) (frames : Inline → ℕ) (text : List ℕ) where
-  one-outcome : HasOneAnswer rule frames text → (outcome other : Result Inline ParseFault) → HasOutcome rule frames text outcome → HasOutcome rule frames text other → outcome ≡ other
+  one-outcome : HasOneAnswer rule frames text → (outcome other : Result Inline ParseFault) → HasOutcome rule frames text outcome
+      → HasOutcome rule frames text other → outcome ≡ other
   one-outcome one (Ok x) (Ok y) a b = ap Ok (one.one_tree x y a.0 b.0)
   one-outcome one (Ok x) (Err fault) a b = absurd (one.not_both x fault a.0 a.1 b)
   one-outcome one (Err fault) (Ok y) a b = absurd (one.not_both y fault b.0 b.1 a)
@@ -45,9 +48,11 @@ ad_answers text = one_answer IsRoot frames_of_ad root-one root-decided text
 
 -- ---- the functions give it
 
-module _ (rule : List Word → Inline → Type 0) (parse : List Word → Option Inline) (frames : Inline → ℕ) (sound : (ws : List Word) (x : Inline) → parse ws ≡ Some x → rule ws x)
+module _ (rule : List Word → Inline → Type 0) (parse : List Word → Option Inline) (frames : Inline → ℕ)
+    (sound : (ws : List Word) (x : Inline) → parse ws ≡ Some x → rule ws x)
     (complete : (ws : List Word) → parse ws ≡ None → (x : Inline) → rule ws x → ⊥) (text : List ℕ) where
-  read-has : (ws : List Word) → HasWords text ws → nests_too_deep ws ≡ false → (read : Option Inline) → parse ws ≡ read → HasOutcome rule frames text (read_within frames read)
+  read-has : (ws : List Word) → HasWords text ws → nests_too_deep ws ≡ false → (read : Option Inline) → parse ws ≡ read
+      → HasOutcome rule frames text (read_within frames read)
   read-has ws has shallow None is = ((ws, has, shallow, complete ws is), λ e. absurd cc)
   read-has ws has shallow (Some x) is = limited-has rule frames text x (record { ws = ws; has = has; shallow = shallow; reads = sound ws x is })
 
@@ -73,10 +78,12 @@ pub ad_outcome-has : (text : List ℕ) → HasAdOutcome text (ad_outcome text)
 unfolding ad_outcome
 ad_outcome-has text = outcome-has IsRoot parsed_ad frames_of_ad parsed_ad-sound parsed_ad-none text
 
-pub expr_outcome-one : (text : List ℕ) (outcome other : Result Inline ParseFault) → HasExprOutcome text outcome → HasExprOutcome text other → outcome ≡ other
+pub expr_outcome-one : (text : List ℕ) (outcome other : Result Inline ParseFault) → HasExprOutcome text outcome → HasExprOutcome text other
+    → outcome ≡ other
 expr_outcome-one text = one-outcome IsExpr frames_of_expr text (expr_answers text)
 
-pub ad_outcome-one : (text : List ℕ) (outcome other : Result Inline ParseFault) → HasAdOutcome text outcome → HasAdOutcome text other → outcome ≡ other
+pub ad_outcome-one : (text : List ℕ) (outcome other : Result Inline ParseFault) → HasAdOutcome text outcome → HasAdOutcome text other
+    → outcome ≡ other
 ad_outcome-one text = one-outcome IsRoot frames_of_ad text (ad_answers text)
 
 -- ---- what a parse answers fits the outcome
@@ -90,7 +97,8 @@ ad-memory : (outcome : Result Inline ParseFault) (fault : ParseFault) → fault 
 ad-memory (Ok x) fault same = same
 ad-memory (Err wrong) fault same = inr same
 
-pub expr_answer-fits : (text : List ℕ) (answer : Result Phrase ParseFault) → AnswersExpr text answer → (outcome : Result Inline ParseFault) → HasExprOutcome text outcome → IsExprAnswer outcome answer
+pub expr_answer-fits : (text : List ℕ) (answer : Result Phrase ParseFault) → AnswersExpr text answer → (outcome : Result Inline ParseFault)
+    → HasExprOutcome text outcome → IsExprAnswer outcome answer
 expr_answer-fits text (Ok phrase) is outcome has =
     subst (λ o. IsExprAnswer o (Ok phrase)) (expr_outcome-one text (Ok is.0) outcome (is.1, is.2) has) (is.3, is.4)
 expr_answer-fits text (Err fault) is outcome has =
@@ -99,7 +107,8 @@ expr_answer-fits text (Err fault) is outcome has =
       | inr wrong ↦ subst (λ o. IsExprAnswer o (Err fault)) (expr_outcome-one text (Err fault) outcome wrong has) (inl refl)
     ]
 
-pub ad_answer-fits : (text : List ℕ) (answer : Result Ad ParseFault) → AnswersAd text answer → (outcome : Result Inline ParseFault) → HasAdOutcome text outcome → IsAdAnswer outcome answer
+pub ad_answer-fits : (text : List ℕ) (answer : Result Ad ParseFault) → AnswersAd text answer → (outcome : Result Inline ParseFault)
+    → HasAdOutcome text outcome → IsAdAnswer outcome answer
 ad_answer-fits text (Ok ad) is outcome has = subst (λ o. IsAdAnswer o (Ok ad)) (ad_outcome-one text (Ok is.0) outcome (is.1, is.2) has) is.3
 ad_answer-fits text (Err fault) is outcome has =
     elim (has-fault IsRoot frames_of_ad text fault is) [

@@ -35,7 +35,8 @@ module _ (text : List ℕ) (ws : List Word) (shallow : IsShallow text ws) where
   no-ad none = (ws, shallow.0, shallow.1, parsed_ad-none ws none)
 
 -- a tree whose numbers are tested
-module _ (rule : List Word → Inline → Type 0) (frames : Inline → ℕ) (text : List ℕ) (x : Inline) (has : Spells rule text x) (roots : ℕ) (frames_are : frames x ≡ roots + count x) where
+module _ (rule : List Word → Inline → Type 0) (frames : Inline → ℕ) (text : List ℕ) (x : Inline) (has : Spells rule text x) (roots : ℕ)
+    (frames_are : frames x ≡ roots + count x) where
   pub checked-fault : (fault : ParseFault) → IsChecked roots x (Err fault) → IsFault rule frames text fault
   checked-fault (faults.Lex kind place) is = absurd is
   checked-fault faults.Nesting is = absurd is
@@ -49,11 +50,14 @@ module _ (rule : List Word → Inline → Type 0) (frames : Inline → ℕ) (tex
   checked-within done is = record { low = is.0; few_frames = omega arith; few_definitions = is.2 }
 
 -- an answer that only hands on why a step stopped
-module _ {A : Type 0} (rule : List Word → Inline → Type 0) (frames : Inline → ℕ) (text : List ℕ) (answers : Result A ParseFault → Type 0) (told : (fault : ParseFault) → IsFault rule frames text fault → answers (Err fault)) where
-  pub hands_on : (fault : ParseFault) (answer : Result A ParseFault) → IsErr answer → IsErrAnd answer (λ e. e ≡ fault) → IsFault rule frames text fault → answers answer
+module _ {A : Type 0} (rule : List Word → Inline → Type 0) (frames : Inline → ℕ) (text : List ℕ) (answers : Result A ParseFault → Type 0)
+    (told : (fault : ParseFault) → IsFault rule frames text fault → answers (Err fault)) where
+  pub hands_on : (fault : ParseFault) (answer : Result A ParseFault) → IsErr answer → IsErrAnd answer (λ e. e ≡ fault) → IsFault rule frames text fault
+      → answers answer
   hands_on fault (Ok a) err same is = absurd (cc)
   hands_on fault (Err other) err same is = told other (subst (IsFault rule frames text) (sym same) is)
 
-  pub stops_at : (stop : Stop) (answer : Result A ParseFault) → IsErr answer → IsErrAnd answer (λ e. e ≡ of_stop stop) → (stop ≡ stops.Grammar → IsFault rule frames text faults.Grammar) → answers answer
+  pub stops_at : (stop : Stop) (answer : Result A ParseFault) → IsErr answer → IsErrAnd answer (λ e. e ≡ of_stop stop)
+      → (stop ≡ stops.Grammar → IsFault rule frames text faults.Grammar) → answers answer
   stops_at stops.Grammar answer err same is = hands_on faults.Grammar answer err same (is refl)
   stops_at stops.OutOfMemory answer err same is = hands_on faults.OutOfMemory answer err same tt

@@ -1,6 +1,7 @@
 -- A tree without its repeated definitions keeps what the tree keeps, and is no higher and no larger.
 use Rattle.std.proofs.Common.{◌≡◌, ℕ, suc, ◌+◌, ◌≤◌, max, Bool, true, false, cond, List, refl, ◌∙◌, ap, arith}
-use Rattle.ad_tree.specs.Inline.{Inline, shape, inner, Inlines, end, next, Defs, no_defs, def, count, count_all, count_defs, height, highest, highest_def, definitions, definitions_all, definitions_in, put, settled, settled_all, settled_defs}
+use Rattle.ad_tree.specs.Inline.{Inline, shape, inner, Inlines, end, next, Defs, no_defs, def, count, count_all, count_defs, height, highest, highest_def}
+use Rattle.ad_tree.specs.Inline.{definitions, definitions_all, definitions_in, put, settled, settled_all, settled_defs}
 use Rattle.ad_tree.specs.Names.{same_name}
 use Rattle.ad_tree.specs.Tree.{Label, literal, name, unary, binary, all, any, choice, select, subscript, call, list}
 use Rattle.ad_parser.specs.Answers.{IsWithin, frames_of_expr, frames_of_ad}
@@ -53,7 +54,8 @@ mutual
 
   settled_defs-made : (ds done : Defs) → DefsMade done → DefsMade ds → DefsMade (settled_defs done ds)
   settled_defs-made no_defs done before m = before
-  settled_defs-made (def text i ds) done before m = settled_defs-made ds (put text (settled i) done) (put-made text (settled i) done m.0 (settled-made i m.1) before) m.2
+  settled_defs-made (def text i ds) done before m =
+      settled_defs-made ds (put text (settled i) done) (put-made text (settled i) done m.0 (settled-made i m.1) before) m.2
 
 -- its numbers
 record NoMore (i j : Inline) : Type 0 where
@@ -76,7 +78,8 @@ put-within : (text : List ℕ) (i : Inline) (ds : Defs) → Within (put text i d
 put-within text i no_defs = record { low = omega arith; few = omega arith; fewer = omega arith }
 put-within text i (def other j ds) = by (same_name text other) (put-within text i ds)
   where
-    by : (b : Bool) → Within (put text i ds) (def text i no_defs) ds → Within (cond b (def text i ds) (def other j (put text i ds))) (def text i no_defs) (def other j ds)
+    by : (b : Bool) → Within (put text i ds) (def text i no_defs) ds
+        → Within (cond b (def text i ds) (def other j (put text i ds))) (def text i no_defs) (def other j ds)
     by true rest = record { low = omega arith; few = omega arith; fewer = omega arith }
     by false rest =
         let low = rest.low in
@@ -105,7 +108,21 @@ mutual
       record { low = omega (arith, h.low, p.low, k.low); few = omega (arith, h.few, p.few, k.few); fewer = omega (arith, h.fewer, p.fewer, k.fewer) }
 
 pub settled_expr-within : (x : Inline) → IsWithin frames_of_expr x → IsWithin frames_of_expr (settled x)
-settled_expr-within x w = let h = no_more x in record { low = omega (arith, h.low, w.low); few_frames = omega (arith, h.few, w.few_frames); few_definitions = omega (arith, h.fewer, w.few_definitions) }
+settled_expr-within x w =
+    let h =
+    no_more x in record {
+      low =
+          omega (arith, h.low, w.low);
+      few_frames = omega (arith, h.few, w.few_frames);
+      few_definitions = omega (arith, h.fewer, w.few_definitions);
+    }
 
 pub settled_ad-within : (x : Inline) → IsWithin frames_of_ad x → IsWithin frames_of_ad (settled x)
-settled_ad-within x w = let h = no_more x in record { low = omega (arith, h.low, w.low); few_frames = omega (arith, h.few, w.few_frames); few_definitions = omega (arith, h.fewer, w.few_definitions) }
+settled_ad-within x w =
+    let h =
+    no_more x in record {
+      low =
+          omega (arith, h.low, w.low);
+      few_frames = omega (arith, h.few, w.few_frames);
+      few_definitions = omega (arith, h.fewer, w.few_definitions);
+    }

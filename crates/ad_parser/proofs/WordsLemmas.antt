@@ -1,5 +1,6 @@
 -- The words that are read in a text one behind another are those of its tokens, and the fault that is met is its fault.
-use Rattle.std.proofs.Common.{◌≡◌, ℕ, zero, suc, ◌+◌, ◌-◌, ◌<◌, false, List, [], ◌∷◌, ◌++◌, length, drop, Result, Ok, Err, refl, sym, ap, ◌∙◌, inl, inr, arith, length-append}
+use Rattle.std.proofs.Common.{◌≡◌, ℕ, zero, suc, ◌+◌, ◌-◌, ◌<◌, false, List, [], ◌∷◌, ◌++◌, length, drop, Result, Ok, Err, refl}
+use Rattle.std.proofs.Common.{sym, ap, ◌∙◌, inl, inr, arith, length-append}
 use Rattle.std.proofs.lemmas.Bool.{cases_Bool}
 use Rattle.std.proofs.lemmas.List.{take_at, drop_at}
 use Rattle.std.proofs.lemmas.Str.{IsUtf8-from_is_utf8, is_utf8-from_IsUtf8, utf8_valid_len-IsValidUpTo}
@@ -27,7 +28,8 @@ skip-on : (at skip : ℕ) (text : List ℕ) → words_from at skip text ≡ word
 skip-on at zero [] = refl
 skip-on at zero (byte ∷ rest) = let e : at ≡ at + 0 = omega arith in ap (λ (n : ℕ). words_from n 0 (byte ∷ rest)) e
 skip-on at (suc skip) [] = refl
-skip-on at (suc skip) (byte ∷ rest) = let e : at + 1 + skip ≡ at + suc skip = omega arith in skip-on (at + 1) skip rest ∙ ap (λ (n : ℕ). words_from n 0 (drop skip rest)) e
+skip-on at (suc skip) (byte ∷ rest) =
+    let e : at + 1 + skip ≡ at + suc skip = omega arith in skip-on (at + 1) skip rest ∙ ap (λ (n : ℕ). words_from n 0 (drop skip rest)) e
 
 behind : (at : ℕ) (bytes after : List ℕ) → words_from (at + 1) (suc (length bytes) - 1) (bytes ++ after) ≡ words_from (at + suc (length bytes)) 0 after
 behind at bytes after =
@@ -51,7 +53,8 @@ abbrev with_item : Item → Result (List Word) ParseFault → Result (List Word)
 with_item (blank bytes) found = found
 with_item (token kind bytes) found = put_before (word_of_kind kind bytes) found
 
-item-read : (at : ℕ) (item : Item) (after : List ℕ) → IsItem item after → words_from at 0 (bytes_of item ++ after) ≡ with_item item (words_from (at + length (bytes_of item)) 0 after)
+item-read : (at : ℕ) (item : Item) (after : List ℕ) → IsItem item after
+    → words_from at 0 (bytes_of item ++ after) ≡ with_item item (words_from (at + length (bytes_of item)) 0 after)
 item-read at (blank []) after is = absurd (omega (arith, blank-some [] after is))
 item-read at (blank (byte ∷ bytes)) after is = ap (by_step at byte (bytes ++ after)) (item_next (blank (byte ∷ bytes)) after is) ∙ behind at bytes after
 item-read at (token kind []) after is = absurd (omega (arith, spelled_some kind [] is.spelled))
@@ -87,7 +90,8 @@ read-fault [] text rest at kind place divides wrong =
     ap (words_from at 0) divides ∙ wrong-read kind rest at place wrong ∙ ap (λ (n : ℕ). Err (faults.Lex kind n)) e
 read-fault (item ∷ items) text rest at kind place divides wrong =
     let front : List ℕ = flat_map bytes_of items in
-    let e : at + length (bytes_of item) + (length front + place) ≡ at + (length (bytes_of item ++ front) + place) = omega (arith, length-append (bytes_of item) front) in
+    let e : at + length (bytes_of item) + (length front + place) ≡ at + (length (bytes_of item ++ front) + place) =
+    omega (arith, length-append (bytes_of item) front) in
     ap (words_from at 0) divides.1 ∙ item-read at item divides.0 divides.2
     ∙ ap (with_item item) (read-fault items divides.0 rest (at + length (bytes_of item)) kind place divides.3 wrong)
     ∙ fault-read item (faults.Lex kind (at + length (bytes_of item) + (length front + place)))
@@ -100,7 +104,8 @@ words_of-tokens text list tokens =
 pub words_of-fault : (text : List ℕ) (kind : LexKind) (place : ℕ) → Fault text kind place → words_of text ≡ Err (faults.Lex kind place)
 words_of-fault text kind place (inl ill) =
     let isnt : is_utf8 text ≡ false = elim (cases_Bool (is_utf8 text)) [ inl is ↦ absurd (ill.1 (IsUtf8-from_is_utf8 text is)) | inr isnt ↦ isnt ] in
-    rw isnt (ap (λ (n : ℕ). Err (faults.Lex Encoding n)) (utf8_valid_len-IsValidUpTo text place ill.2) ∙ ap (λ (k : LexKind). Err (faults.Lex k place)) (sym ill.0))
+    rw isnt (ap (λ (n : ℕ). Err (faults.Lex Encoding n)) (utf8_valid_len-IsValidUpTo text place ill.2)
+    ∙ ap (λ (k : LexKind). Err (faults.Lex k place)) (sym ill.0))
 words_of-fault text kind place (inr has) =
     let e : 0 + (length (flat_map bytes_of has.1.0) + has.1.2) ≡ place = omega (arith, has.1.5) in
     rw (is_utf8-from_IsUtf8 text has.0) (read-fault has.1.0 text has.1.1 0 kind has.1.2 has.1.3 has.1.4 ∙ ap (λ (n : ℕ). Err (faults.Lex kind n)) e)

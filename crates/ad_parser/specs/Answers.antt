@@ -48,7 +48,8 @@ IsFault rule frames text faults.Nesting = (ws : List Word) × HasWords text ws �
 IsFault rule frames text faults.Grammar = (ws : List Word) × HasWords text ws × (nests_too_deep ws ≡ false) × ((x : Inline) → rule ws x → ⊥)
 IsFault rule frames text faults.Depth = (x : Inline) × Spells rule text x × (height_limit < height x)
 IsFault rule frames text faults.Frames = (x : Inline) × Spells rule text x × (height x ≤ height_limit) × (frame_limit < frames x)
-IsFault rule frames text faults.Attributes = (x : Inline) × Spells rule text x × (height x ≤ height_limit) × (frames x ≤ frame_limit) × (definition_limit < definitions x)
+IsFault rule frames text faults.Attributes =
+    (x : Inline) × Spells rule text x × (height x ≤ height_limit) × (frames x ≤ frame_limit) × (definition_limit < definitions x)
 IsFault rule frames text faults.OutOfMemory = Unit {0}
 
 -- what the parse of an ad answers: the ad of the tree that the text spells, where it is within the limits, or the fault
@@ -58,5 +59,6 @@ AnswersAd text (Err fault) = IsFault IsRoot frames_of_ad text fault
 
 -- what the parse of an expression answers
 abbrev pub AnswersExpr : List ℕ → Result Phrase ParseFault → Type 0
-AnswersExpr text (Ok phrase) = (x : Inline) × Spells IsExpr text x × IsWithin frames_of_expr x × (ad_frames phrase.ad ≡ phrase_of x) × (tree phrase.expr ≡ phrase_tree x)
+AnswersExpr text (Ok phrase) =
+    (x : Inline) × Spells IsExpr text x × IsWithin frames_of_expr x × (ad_frames phrase.ad ≡ phrase_of x) × (tree phrase.expr ≡ phrase_tree x)
 AnswersExpr text (Err fault) = IsFault IsExpr frames_of_expr text fault

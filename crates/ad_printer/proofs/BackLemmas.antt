@@ -35,7 +35,15 @@ printed-words x made =
     let stand : Stand (pieces x) [] = (tree_stands x made).stand [] (ahead-end (loose x)) in
     record {
       tokens = lexemes 0 (pieces x);
-      has = (Stand-utf8 (pieces x) [] stand, (pieces x, subst (λ text. Divides text (pieces x) []) (append-nil (printed x)) (Stand-divides (pieces x) [] stand), refl));
+      has = (
+        Stand-utf8 (pieces x) [] stand,
+        (
+          pieces x,
+          subst (λ text. Divides text (pieces x) []) (append-nil (printed x)) (Stand-divides (pieces x) []
+              stand),
+          refl,
+        ),
+      );
       are = sym (lexemes-words 0 (pieces x));
     }
 
@@ -46,7 +54,15 @@ pub expr_spelled : (x : Inline) → IsMade x → height x ≤ height_limit → S
 expr_spelled x made low = record { ws = words_of (pieces x); has = printed-words x made; shallow = printed-shallow x low; reads = (tree_reads x made).whole }
 
 pub ad_spelled : (ds : Defs) → IsMade (inner ds) → height (inner ds) ≤ height_limit → Spells IsRoot (printed (inner ds)) (inner ds)
-ad_spelled ds made low = record { ws = words_of (pieces (inner ds)); has = printed-words (inner ds) made; shallow = printed-shallow (inner ds) low; reads = (ds, refl, ad_reads ds (all_read ds made)) }
+ad_spelled ds made low =
+    record {
+      ws =
+          words_of (pieces (inner ds));
+      has =
+          printed-words (inner ds) made;
+      shallow = printed-shallow (inner ds) low;
+      reads = (ds, refl, ad_reads ds (all_read ds made));
+    }
 
 -- no text spells two trees
 pub one_expr : (text : List ℕ) (x y : Inline) → Spells IsExpr text x → Spells IsExpr text y → x ≡ y
@@ -56,7 +72,8 @@ pub one_ad : (text : List ℕ) (x y : Inline) → Spells IsRoot text x → Spell
 one_ad text x y a b = spells_same IsRoot frames_of_ad root-one root-decided text x y a b
 
 pub printed-one : (x y : Inline) → IsMade x → IsMade y → height x ≤ height_limit → height y ≤ height_limit → printed x ≡ printed y → x ≡ y
-printed-one x y made other low short same = one_expr (printed y) x y (subst (λ text. Spells IsExpr text x) same (expr_spelled x made low)) (expr_spelled y other short)
+printed-one x y made other low short same =
+    one_expr (printed y) x y (subst (λ text. Spells IsExpr text x) same (expr_spelled x made low)) (expr_spelled y other short)
 
 -- ---- ads that a parse answers
 
@@ -71,7 +88,8 @@ module _ (text : List ℕ) (ad : Ad) (answer : AnswersAd text (Ok ad)) where
   ad_text-spelled = ad_spelled _ (ad_answer-made text ad answer) (ad_answer-within text ad answer).low
 
   pub ad_text-read : (again : Result Ad ParseFault) → AnswersAd (printed_frame (ad_frames ad) 0) again → IsAdAgain (ad_frames ad) again
-  ad_text-read again answers = by again (ad_answer-fits (printed_frame (ad_frames ad) 0) again answers (Ok (spelled (ad_frames ad))) (ad_text-spelled, ad_answer-within text ad answer))
+  ad_text-read again answers =
+      by again (ad_answer-fits (printed_frame (ad_frames ad) 0) again answers (Ok (spelled (ad_frames ad))) (ad_text-spelled, ad_answer-within text ad answer))
     where
       by : (other : Result Ad ParseFault) → IsAdAnswer (Ok (spelled (ad_frames ad))) other → IsAdAgain (ad_frames ad) other
       by (Ok other) is = is ∙ ad-again
@@ -86,13 +104,19 @@ module _ (text : List ℕ) (phrase : Phrase) (answer : AnswersExpr text (Ok phra
   settled-again : settled (spelled_tree (ad_frames phrase.ad) (tree phrase.expr)) ≡ settled answer.0
   settled-again = ap settled phrase-is ∙ settled-settled answer.0
 
-  pub phrase_text-spelled : Spells IsExpr (printed (spelled_tree (ad_frames phrase.ad) (tree phrase.expr))) (spelled_tree (ad_frames phrase.ad) (tree phrase.expr))
-  phrase_text-spelled = expr_spelled (spelled_tree (ad_frames phrase.ad) (tree phrase.expr)) (phrase_answer-made text phrase answer) (phrase_answer-within text phrase answer).low
+  pub phrase_text-spelled : Spells IsExpr (printed (spelled_tree (ad_frames phrase.ad) (tree phrase.expr)))
+      (spelled_tree (ad_frames phrase.ad) (tree phrase.expr))
+  phrase_text-spelled =
+      expr_spelled (spelled_tree (ad_frames phrase.ad) (tree phrase.expr)) (phrase_answer-made text phrase answer) (phrase_answer-within text phrase answer).low
 
-  pub phrase_text-read : (again : Result Phrase ParseFault) → AnswersExpr (printed (spelled_tree (ad_frames phrase.ad) (tree phrase.expr))) again → IsPhraseAgain (ad_frames phrase.ad) (tree phrase.expr) again
+  pub phrase_text-read : (again : Result Phrase ParseFault) → AnswersExpr (printed (spelled_tree (ad_frames phrase.ad) (tree phrase.expr))) again
+      → IsPhraseAgain (ad_frames phrase.ad) (tree phrase.expr) again
   phrase_text-read again answers =
-      by again (expr_answer-fits (printed (spelled_tree (ad_frames phrase.ad) (tree phrase.expr))) again answers (Ok (spelled_tree (ad_frames phrase.ad) (tree phrase.expr))) (phrase_text-spelled, phrase_answer-within text phrase answer))
+      by again (expr_answer-fits (printed (spelled_tree (ad_frames phrase.ad) (tree phrase.expr))) again answers
+      (Ok (spelled_tree (ad_frames phrase.ad) (tree phrase.expr))) (phrase_text-spelled, phrase_answer-within text phrase answer))
     where
-      by : (other : Result Phrase ParseFault) → IsExprAnswer (Ok (spelled_tree (ad_frames phrase.ad) (tree phrase.expr))) other → IsPhraseAgain (ad_frames phrase.ad) (tree phrase.expr) other
-      by (Ok other) is = (is.0 ∙ ap (λ x. empty_frame 0 ∷ frames 0 1 x) settled-again ∙ sym answer.3, is.1 ∙ ap (number 1) settled-again ∙ sym answer.4)
+      by : (other : Result Phrase ParseFault) → IsExprAnswer (Ok (spelled_tree (ad_frames phrase.ad) (tree phrase.expr))) other
+          → IsPhraseAgain (ad_frames phrase.ad) (tree phrase.expr) other
+      by (Ok other) is =
+          (is.0 ∙ ap (λ x. empty_frame 0 ∷ frames 0 1 x) settled-again ∙ sym answer.3, is.1 ∙ ap (number 1) settled-again ∙ sym answer.4)
       by (Err fault) is = is

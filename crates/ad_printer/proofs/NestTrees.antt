@@ -1,5 +1,6 @@
 -- The words of a tree open no more constructs at once than twice its height.
-use Rattle.std.proofs.Common.{◌≡◌, ℕ, suc, ◌+◌, ◌*◌, ◌≤◌, Bool, true, false, ltb, List, [], ◌∷◌, ◌++◌, codes, refl, sym, ◌∙◌, ap, subst, arith, leb, append_assoc, append-nil}
+use Rattle.std.proofs.Common.{◌≡◌, ℕ, suc, ◌+◌, ◌*◌, ◌≤◌, Bool, true, false, ltb, List, [], ◌∷◌, ◌++◌, codes, refl, sym}
+use Rattle.std.proofs.Common.{◌∙◌, ap, subst, arith, leb, append_assoc, append-nil}
 use Rattle.std.proofs.lemmas.Bool.Decides.{nat_tests}
 use Rattle.pool_text.specs.declared.language.BinOp.{BinOp}
 use Rattle.pool_text.specs.declared.language.Lit.{Lit}
@@ -15,16 +16,23 @@ use Rattle.ad_tree.specs.declared.tree.Scope.TheVariants as scopes
 use Rattle.ad_grammar.specs.Nesting.{nesting_limit, opening, closing, nests_deeper, nests_too_deep}
 use Rattle.ad_grammar.specs.Words.{Word, plain, constant, mark, word_of_kind}
 use Rattle.ad_lexer.specs.declared.mark.Mark.TheVariants as marks
-use Rattle.ad_printer.specs.Pieces.{space, symbol, spaced, then_space, is_plain_name, name_piece, scoped, literal_piece, prefix_bytes, infix_bytes, behind, divided, enclosed}
+use Rattle.ad_printer.specs.Pieces.{space, symbol, spaced, then_space, is_plain_name, name_piece, scoped, literal_piece, prefix_bytes, infix_bytes, behind}
+use Rattle.ad_printer.specs.Pieces.{divided, enclosed}
 use Rattle.ad_printer.specs.Printed.{loose, first_bound, other_bound, grouped, around, pieces, operands, definition_pieces}
 use Rattle.ad_printer.proofs.WordLemmas.{word_in, words_of, words_of-append, infix_word}
 
 -- words that close what they open, with at most n more open in between
 pub record Flat (n : ℕ) (ws : List Word) : Type 0 where
-  pub passes : (o c : ℕ) (more : List Word) → o + n ≤ c + nesting_limit → (d : ℕ) × (nests_deeper o c (ws ++ more) ≡ nests_deeper (o + d) (c + d) more)
+  pub passes : (o c : ℕ) (more : List Word) → o + n ≤ c + nesting_limit
+      → (d : ℕ) × (nests_deeper o c (ws ++ more) ≡ nests_deeper (o + d) (c + d) more)
 
 flat-none : (n : ℕ) → Flat n []
-flat-none n = record { passes = λ o c more fits. let a : o ≡ o + 0 = omega arith in let b : c ≡ c + 0 = omega arith in (0, ap (λ (p : ℕ). nests_deeper p c more) a ∙ ap (λ (q : ℕ). nests_deeper (o + 0) q more) b) }
+flat-none n =
+    record {
+      passes =
+          λ o c more fits. let a : o ≡ o + 0 =
+          omega arith in let b : c ≡ c + 0 = omega arith in (0, ap (λ (p : ℕ). nests_deeper p c more) a ∙ ap (λ (q : ℕ). nests_deeper (o + 0) q more) b);
+    }
 
 flat-append : (n : ℕ) (a b : List Word) → Flat n a → Flat n b → Flat n (a ++ b)
 flat-append n a b f g = record {
@@ -43,7 +51,8 @@ flat-more : (n m : ℕ) (ws : List Word) → n ≤ m → Flat n ws → Flat m ws
 flat-more n m ws less f = record { passes = λ o c more fits. f.passes o c more (omega arith) }
 
 -- one word, by what it opens and closes
-step : (o c : ℕ) (w : Word) (more : List Word) (p q : ℕ) → opening w ≡ p → closing w ≡ q → o + p ≤ c + q + nesting_limit → nests_deeper o c (w ∷ more) ≡ nests_deeper (o + p) (c + q) more
+step : (o c : ℕ) (w : Word) (more : List Word) (p q : ℕ) → opening w ≡ p → closing w ≡ q → o + p ≤ c + q + nesting_limit
+    → nests_deeper o c (w ∷ more) ≡ nests_deeper (o + p) (c + q) more
 step o c w more p q opens closes fits =
     let test : ltb (c + closing w + nesting_limit) (o + opening w) ≡ false = grind (arith, nat_tests) in
     rw test (ap (λ (i : ℕ). nests_deeper (o + i) (c + closing w) more) opens ∙ ap (λ (i : ℕ). nests_deeper (o + p) (c + i) more) closes)
@@ -51,7 +60,8 @@ step o c w more p q opens closes fits =
 pub flat-word : (n : ℕ) (w : Word) → opening w ≡ 0 → closing w ≡ 0 → Flat n (w ∷ [])
 flat-word n w opens closes = record { passes = λ o c more fits. (0, step o c w more 0 0 opens closes (omega arith)) }
 
-flat-inside : (n : ℕ) (left right : Word) (ws : List Word) → opening left ≡ 1 → closing left ≡ 0 → opening right ≡ 0 → closing right ≡ 1 → Flat n ws → Flat (suc n) (left ∷ (ws ++ right ∷ []))
+flat-inside : (n : ℕ) (left right : Word) (ws : List Word) → opening left ≡ 1 → closing left ≡ 0 → opening right ≡ 0 → closing right ≡ 1
+    → Flat n ws → Flat (suc n) (left ∷ (ws ++ right ∷ []))
 flat-inside n left right ws a b x y f = record {
   passes = λ o c more fits.
       let one = step o c left ((ws ++ right ∷ []) ++ more) 1 0 a b (omega arith) in
@@ -76,7 +86,8 @@ pieces-append : (n : ℕ) (a b : List Item) → Flat n (words_of a) → Flat n (
 pieces-append n a b f g = subst (Flat n) (sym (words_of-append a b)) (flat-append n (words_of a) (words_of b) f g)
 
 -- a row of pieces between brackets
-pieces-inside : (n : ℕ) (left right : List ℕ) (items : List Item) → opening (word_of_kind kinds.Symbol left) ≡ 1 → closing (word_of_kind kinds.Symbol left) ≡ 0 → opening (word_of_kind kinds.Symbol right) ≡ 0 → closing (word_of_kind kinds.Symbol right) ≡ 1
+pieces-inside : (n : ℕ) (left right : List ℕ) (items : List Item) → opening (word_of_kind kinds.Symbol left) ≡ 1
+    → closing (word_of_kind kinds.Symbol left) ≡ 0 → opening (word_of_kind kinds.Symbol right) ≡ 0 → closing (word_of_kind kinds.Symbol right) ≡ 1
     → Flat n (words_of items) → Flat (suc n) (words_of (symbol left ∷ (items ++ symbol right ∷ [])))
 pieces-inside n left right items a b x y f =
     let l : Word = word_of_kind kinds.Symbol left in
@@ -105,8 +116,12 @@ name_before n text items f = flat-append n (word_in (name_piece text)) (words_of
 
 scoped_flat : (n : ℕ) (scope : Scope) (text : List ℕ) → Flat n (words_of (scoped scope text))
 scoped_flat n scopes.Bare text = name_before n text [] (flat-none n)
-scoped_flat n scopes.My text = word-flat n (plain (codes "MY")) (symbol (codes ".") ∷ name_piece text ∷ []) refl refl (word-flat n (mark marks.Dot) (name_piece text ∷ []) refl refl (name_before n text [] (flat-none n)))
-scoped_flat n scopes.Target text = word-flat n (plain (codes "TARGET")) (symbol (codes ".") ∷ name_piece text ∷ []) refl refl (word-flat n (mark marks.Dot) (name_piece text ∷ []) refl refl (name_before n text [] (flat-none n)))
+scoped_flat n scopes.My text =
+    word-flat n (plain (codes "MY")) (symbol (codes ".") ∷ name_piece text ∷ []) refl refl
+    (word-flat n (mark marks.Dot) (name_piece text ∷ []) refl refl (name_before n text [] (flat-none n)))
+scoped_flat n scopes.Target text =
+    word-flat n (plain (codes "TARGET")) (symbol (codes ".") ∷ name_piece text ∷ []) refl refl
+    (word-flat n (mark marks.Dot) (name_piece text ∷ []) refl refl (name_before n text [] (flat-none n)))
 
 literal_flat : (n : ℕ) (lit : Lit) → Flat n (words_of (literal_piece lit ∷ []))
 literal_flat n literals.Undefined = flat-word n (constant literals.Undefined) refl refl
@@ -125,13 +140,15 @@ AllFlat n (p ∷ ps) = Flat n (words_of p) × AllFlat n ps
 
 behind_flat : (n : ℕ) (divider : List Item) (ps : List (List Item)) → Flat n (words_of divider) → AllFlat n ps → Flat n (words_of (behind divider ps))
 behind_flat n divider [] d each = flat-none n
-behind_flat n divider (p ∷ ps) d each = pieces-append n divider (p ++ behind divider ps) d (pieces-append n p (behind divider ps) each.0 (behind_flat n divider ps d each.1))
+behind_flat n divider (p ∷ ps) d each =
+    pieces-append n divider (p ++ behind divider ps) d (pieces-append n p (behind divider ps) each.0 (behind_flat n divider ps d each.1))
 
 row_flat : (n : ℕ) (divider : List Item) (ps : List (List Item)) → Flat n (words_of divider) → AllFlat n ps → Flat n (words_of (divided divider ps))
 row_flat n divider [] d each = flat-none n
 row_flat n divider (p ∷ ps) d each = pieces-append n p (behind divider ps) each.0 (behind_flat n divider ps d each.1)
 
-enclosed_flat : (n : ℕ) (left right : List ℕ) (divider : List Item) (ps : List (List Item)) → opening (word_of_kind kinds.Symbol left) ≡ 1 → closing (word_of_kind kinds.Symbol left) ≡ 0 → opening (word_of_kind kinds.Symbol right) ≡ 0 → closing (word_of_kind kinds.Symbol right) ≡ 1
+enclosed_flat : (n : ℕ) (left right : List ℕ) (divider : List Item) (ps : List (List Item)) → opening (word_of_kind kinds.Symbol left) ≡ 1
+    → closing (word_of_kind kinds.Symbol left) ≡ 0 → opening (word_of_kind kinds.Symbol right) ≡ 0 → closing (word_of_kind kinds.Symbol right) ≡ 1
     → Flat n (words_of divider) → AllFlat n ps → Flat (suc n) (words_of (enclosed left right divider ps))
 enclosed_flat n left right divider [] a b x y d each = flat-inside n (word_of_kind kinds.Symbol left) (word_of_kind kinds.Symbol right) [] a b x y (flat-none n)
 enclosed_flat n left right divider (p ∷ ps) a b x y d each =
@@ -150,10 +167,12 @@ prefix_flat n before.Complement = flat-word n (word_of_kind kinds.Symbol (codes 
 infix_flat : (n : ℕ) (op : BinOp) → Flat n (words_of (spaced (infix_bytes op)))
 infix_flat n op = subst (λ w. Flat n (w ∷ [])) (sym (infix_word op)) (flat-word n (mark (marks.Binary op)) refl refl)
 
-symbol_flat : (n : ℕ) (bytes : List ℕ) → opening (word_of_kind kinds.Symbol bytes) ≡ 0 → closing (word_of_kind kinds.Symbol bytes) ≡ 0 → Flat n (words_of (symbol bytes ∷ []))
+symbol_flat : (n : ℕ) (bytes : List ℕ) → opening (word_of_kind kinds.Symbol bytes) ≡ 0 → closing (word_of_kind kinds.Symbol bytes) ≡ 0
+    → Flat n (words_of (symbol bytes ∷ []))
 symbol_flat n bytes a b = flat-word n (word_of_kind kinds.Symbol bytes) a b
 
-choice_flat : (n : ℕ) (a b c : List Item) → Flat n (words_of a) → Flat n (words_of b) → Flat n (words_of c) → Flat (suc n) (words_of (a ++ (spaced (codes "?") ++ (b ++ (spaced (codes ":") ++ c)))))
+choice_flat : (n : ℕ) (a b c : List Item) → Flat n (words_of a) → Flat n (words_of b) → Flat n (words_of c)
+    → Flat (suc n) (words_of (a ++ (spaced (codes "?") ++ (b ++ (spaced (codes ":") ++ c)))))
 choice_flat n a b c f g h =
     let wa : List Word = words_of a in
     let wb : List Word = words_of b in
@@ -165,7 +184,8 @@ choice_flat n a b c f g h =
     in
     let up : (ws : List Word) → Flat n ws → Flat (suc n) ws = λ ws k. flat-more n (suc n) ws (omega arith) k in
     subst (Flat (suc n)) (sym same)
-    (flat-append (suc n) wa (inside ++ wc) (up wa f) (flat-append (suc n) inside wc (flat-inside n (mark marks.Question) (mark marks.Colon) wb refl refl refl refl g) (up wc h)))
+    (flat-append (suc n) wa (inside ++ wc) (up wa f) (flat-append (suc n) inside wc (flat-inside n (mark marks.Question) (mark marks.Colon) wb refl refl refl
+    refl g) (up wc h)))
 
 -- a node of any kind over parts that are flat
 node_flat : (n : ℕ) (label : Label) (ps : List (List Item)) → AllFlat n ps → Flat (suc n) (words_of (around label ps))
@@ -174,15 +194,22 @@ node_flat n (literal lit) (a ∷ ps) each = flat-none (suc n)
 node_flat n (name scope text) [] each = scoped_flat (suc n) scope text
 node_flat n (name scope text) (a ∷ ps) each = flat-none (suc n)
 node_flat n (unary op) [] each = flat-none (suc n)
-node_flat n (unary op) (a ∷ []) each = flat-more n (suc n) (words_of (symbol (prefix_bytes op) ∷ a)) (omega arith) (pieces-append n (symbol (prefix_bytes op) ∷ []) a (prefix_flat n op) each.0)
+node_flat n (unary op) (a ∷ []) each =
+    flat-more n (suc n) (words_of (symbol (prefix_bytes op) ∷ a)) (omega arith)
+    (pieces-append n (symbol (prefix_bytes op) ∷ []) a (prefix_flat n op) each.0)
 node_flat n (unary op) (a ∷ b ∷ ps) each = flat-none (suc n)
 node_flat n (binary op) [] each = flat-none (suc n)
 node_flat n (binary op) (a ∷ []) each = flat-none (suc n)
 node_flat n (binary op) (a ∷ b ∷ []) each =
-    flat-more n (suc n) (words_of (a ++ (spaced (infix_bytes op) ++ b))) (omega arith) (pieces-append n a (spaced (infix_bytes op) ++ b) each.0 (pieces-append n (spaced (infix_bytes op)) b (infix_flat n op) each.1.0))
+    flat-more n (suc n) (words_of (a ++ (spaced (infix_bytes op) ++ b))) (omega arith)
+    (pieces-append n a (spaced (infix_bytes op) ++ b) each.0 (pieces-append n (spaced (infix_bytes op)) b (infix_flat n op) each.1.0))
 node_flat n (binary op) (a ∷ b ∷ c ∷ ps) each = flat-none (suc n)
-node_flat n all ps each = flat-more n (suc n) (words_of (divided (spaced (codes "&&")) ps)) (omega arith) (row_flat n (spaced (codes "&&")) ps (symbol_flat n (codes "&&") refl refl) each)
-node_flat n any ps each = flat-more n (suc n) (words_of (divided (spaced (codes "||")) ps)) (omega arith) (row_flat n (spaced (codes "||")) ps (symbol_flat n (codes "||") refl refl) each)
+node_flat n all ps each =
+    flat-more n (suc n) (words_of (divided (spaced (codes "&&")) ps)) (omega arith)
+    (row_flat n (spaced (codes "&&")) ps (symbol_flat n (codes "&&") refl refl) each)
+node_flat n any ps each =
+    flat-more n (suc n) (words_of (divided (spaced (codes "||")) ps)) (omega arith)
+    (row_flat n (spaced (codes "||")) ps (symbol_flat n (codes "||") refl refl) each)
 node_flat n choice [] each = flat-none (suc n)
 node_flat n choice (a ∷ []) each = flat-none (suc n)
 node_flat n choice (a ∷ b ∷ []) each = flat-none (suc n)
@@ -191,16 +218,19 @@ node_flat n choice (a ∷ b ∷ c ∷ d ∷ ps) each = flat-none (suc n)
 node_flat n (select text) [] each = flat-none (suc n)
 node_flat n (select text) (a ∷ []) each =
     flat-more n (suc n) (words_of (a ++ (symbol (codes ".") ∷ name_piece text ∷ []))) (omega arith)
-    (pieces-append n a (symbol (codes ".") ∷ name_piece text ∷ []) each.0 (word-flat n (mark marks.Dot) (name_piece text ∷ []) refl refl (name_before n text [] (flat-none n))))
+    (pieces-append n a (symbol (codes ".") ∷ name_piece text ∷ []) each.0
+    (word-flat n (mark marks.Dot) (name_piece text ∷ []) refl refl (name_before n text [] (flat-none n))))
 node_flat n (select text) (a ∷ b ∷ ps) each = flat-none (suc n)
 node_flat n subscript [] each = flat-none (suc n)
 node_flat n subscript (a ∷ []) each = flat-none (suc n)
 node_flat n subscript (a ∷ b ∷ []) each =
-    pieces-append (suc n) a (symbol (codes "[") ∷ (b ++ symbol (codes "]") ∷ [])) (flat-more n (suc n) (words_of a) (omega arith) each.0) (pieces-inside n (codes "[") (codes "]") b refl refl refl refl each.1.0)
+    pieces-append (suc n) a (symbol (codes "[") ∷ (b ++ symbol (codes "]") ∷ [])) (flat-more n (suc n) (words_of a) (omega arith) each.0)
+    (pieces-inside n (codes "[") (codes "]") b refl refl refl refl each.1.0)
 node_flat n subscript (a ∷ b ∷ c ∷ ps) each = flat-none (suc n)
 node_flat n (call text) ps each =
     word-flat (suc n) (plain text) (symbol (codes "(") ∷ (divided (then_space (codes ",")) ps ++ symbol (codes ")") ∷ [])) refl refl
-    (pieces-inside n (codes "(") (codes ")") (divided (then_space (codes ",")) ps) refl refl refl refl (row_flat n (then_space (codes ",")) ps (symbol_flat n (codes ",") refl refl) each))
+    (pieces-inside n (codes "(") (codes ")") (divided (then_space (codes ",")) ps) refl refl refl refl
+    (row_flat n (then_space (codes ",")) ps (symbol_flat n (codes ",") refl refl) each))
 node_flat n list ps each = enclosed_flat n (codes "{") (codes "}") (then_space (codes ",")) ps refl refl refl refl (symbol_flat n (codes ",") refl refl) each
 
 -- ---- trees
@@ -209,19 +239,26 @@ mutual
   pub tree_flat : (x : Inline) (n : ℕ) → 2 * height x ≤ n → Flat n (words_of (pieces x))
   tree_flat (shape label is) n within =
       let k : ℕ = 2 * highest is + 1 in
-      flat-more (suc k) n (words_of (pieces (shape label is))) (omega arith) (node_flat k label (operands (first_bound label) (other_bound label) is) (operands_flat is (first_bound label) (other_bound label) k (omega arith)))
+      flat-more (suc k) n (words_of (pieces (shape label is))) (omega arith)
+      (node_flat k label (operands (first_bound label) (other_bound label) is) (operands_flat is (first_bound label) (other_bound label) k (omega arith)))
   tree_flat (inner ds) n within =
       let k : ℕ = 2 * highest_def ds + 1 in
       flat-more (suc k) n (words_of (pieces (inner ds))) (omega arith)
-      (enclosed_flat k (codes "[") (codes "]") (then_space (codes ";")) (definition_pieces ds) refl refl refl refl (symbol_flat k (codes ";") refl refl) (definitions_flat ds k (omega arith)))
+      (enclosed_flat k (codes "[") (codes "]") (then_space (codes ";")) (definition_pieces ds) refl refl refl refl (symbol_flat k (codes ";") refl refl)
+      (definitions_flat ds k (omega arith)))
 
   operands_flat : (is : Inlines) (first other n : ℕ) → 2 * highest is + 1 ≤ n → AllFlat n (operands first other is)
   operands_flat end first other n within = tt
   operands_flat (next x xs) first other n within =
-      let k : ℕ = 2 * height x in
-      (flat-more (suc k) n (words_of (grouped (leb (loose x) first) (pieces x))) (omega arith) (part_flat k (pieces x) (leb (loose x) first) (tree_flat x k (omega arith))), operands_flat xs other other n (omega arith))
+      let k : ℕ = 2 * height x in (
+        flat-more (suc k) n (words_of (grouped (leb (loose x) first) (pieces x))) (omega arith)
+            (part_flat k (pieces x) (leb (loose x) first) (tree_flat x k (omega arith))),
+        operands_flat xs other other n (omega arith),
+      )
 
   definitions_flat : (ds : Defs) (n : ℕ) → 2 * highest_def ds + 1 ≤ n → AllFlat n (definition_pieces ds)
   definitions_flat no_defs n within = tt
-  definitions_flat (def text x ds) n within =
-      (name_before n text (spaced (codes "=") ++ pieces x) (word-flat n (mark marks.Assign) (pieces x) refl refl (tree_flat x n (omega arith))), definitions_flat ds n (omega arith))
+  definitions_flat (def text x ds) n within = (
+    name_before n text (spaced (codes "=") ++ pieces x) (word-flat n (mark marks.Assign) (pieces x) refl refl (tree_flat x n (omega arith))),
+    definitions_flat ds n (omega arith),
+  )

@@ -1,5 +1,6 @@
 -- A text between quotes is quoted as the lexer has it, and means the text again.
-use Rattle.std.proofs.Common.{◌≡◌, ℕ, ◌+◌, ◌/◌, ◌%◌, ◌<◌, Bool, true, false, cond, not, eqb, ltb, ◌||◌, List, [], ◌∷◌, ◌++◌, map, Some, refl, sym, ◌∙◌, subst, inl, inr, arith}
+use Rattle.std.proofs.Common.{◌≡◌, ℕ, ◌+◌, ◌/◌, ◌%◌, ◌<◌, Bool, true, false, cond, not, eqb, ltb, ◌||◌, List, [], ◌∷◌}
+use Rattle.std.proofs.Common.{◌++◌, map, Some, refl, sym, ◌∙◌, subst, inl, inr, arith}
 use Rattle.std.proofs.lemmas.Bool.{and_parts, and_from, or_parts, or_cases, not-true, eqb-true}
 use Rattle.std.proofs.lemmas.Bool.Decides.{nat_tests}
 use Rattle.std.specs.List.{list_all}
@@ -27,7 +28,8 @@ special_escaped quote byte is special =
 octal_digit : (n : ℕ) → n < 8 → is_octal_digit (48 + n) ≡ true
 octal_digit n small = grind (arith, nat_tests)
 
-digits_octal : (byte : ℕ) (after : List ℕ) → 0 < byte → byte < 128 → IsOctal (octal_digits byte) after × (digits_value 8 (octal_digits byte) ≡ byte)
+digits_octal : (byte : ℕ) (after : List ℕ) → 0 < byte → byte < 128
+    → IsOctal (octal_digits byte) after × (digits_value 8 (octal_digits byte) ≡ byte)
 digits_octal byte after some small =
     let first : is_octal_digit (48 + byte / 64) ≡ true = octal_digit (byte / 64) (omega arith) in
     let second : is_octal_digit (48 + byte / 8 % 8) ≡ true = octal_digit (byte / 8 % 8) (omega arith) in
@@ -51,8 +53,11 @@ plain_is : (quote byte : ℕ) → eqb byte 0 ≡ false → (eqb byte quote || eq
 plain_is quote byte some special feed = let parts = or_parts (eqb byte quote) (eqb byte 92) special in rw (parts.0, parts.1, feed, some) refl
 
 writes_by : (quote byte : ℕ) (after : List ℕ) (special back tab feed form ret low : Bool) → is_quote quote ≡ true → eqb byte 0 ≡ false
-    → (eqb byte quote || eqb byte 92) ≡ special → eqb byte 8 ≡ back → eqb byte 9 ≡ tab → eqb byte 10 ≡ feed → eqb byte 12 ≡ form → eqb byte 13 ≡ ret → (ltb byte 32 || eqb byte 127) ≡ low
-    → Writes quote byte after (cond special (escape byte byte) (cond back (escape 98 8) (cond tab (escape 116 9) (cond feed (escape 110 10) (cond form (escape 102 12) (cond ret (escape 114 13) (cond low (octal (octal_digits byte)) (plain byte))))))))
+    → (eqb byte quote || eqb byte 92) ≡ special → eqb byte 8 ≡ back → eqb byte 9 ≡ tab → eqb byte 10 ≡ feed → eqb byte 12 ≡ form
+    → eqb byte 13 ≡ ret → (ltb byte 32 || eqb byte 127) ≡ low
+    → Writes quote byte after (cond special (escape byte byte)
+    (cond back (escape 98 8) (cond tab (escape 116 9) (cond feed (escape 110 10)
+    (cond form (escape 102 12) (cond ret (escape 114 13) (cond low (octal (octal_digits byte)) (plain byte))))))))
 writes_by quote byte after true back tab feed form ret low is some a b c d e f g = (special_escaped quote byte is a, refl)
 writes_by quote byte after false true tab feed form ret low is some a b c d e f g = (refl, sym (eqb-true byte 8 b))
 writes_by quote byte after false false true feed form ret low is some a b c d e f g = (refl, sym (eqb-true byte 9 c))
@@ -65,18 +70,22 @@ writes_by quote byte after false false false false false false true is some a b 
     digits_octal byte after above small
 writes_by quote byte after false false false false false false false is some a b c d e f g = (plain_is quote byte some a d, refl)
 
-pub letter_writes : (quote byte : ℕ) (after : List ℕ) → is_quote quote ≡ true → eqb byte 0 ≡ false → IsLetter quote (letter_for quote byte) after × (meaning (letter_for quote byte) ≡ byte)
+pub letter_writes : (quote byte : ℕ) (after : List ℕ) → is_quote quote ≡ true → eqb byte 0 ≡ false
+    → IsLetter quote (letter_for quote byte) after × (meaning (letter_for quote byte) ≡ byte)
 unfolding letter_for
 letter_writes quote byte after is some =
-    writes_by quote byte after (eqb byte quote || eqb byte 92) (eqb byte 8) (eqb byte 9) (eqb byte 10) (eqb byte 12) (eqb byte 13) (ltb byte 32 || eqb byte 127) is some refl refl refl refl refl refl refl
+    writes_by quote byte after (eqb byte quote || eqb byte 92) (eqb byte 8) (eqb byte 9) (eqb byte 10) (eqb byte 12) (eqb byte 13) (ltb byte 32 || eqb byte 127)
+    is some refl refl refl refl refl refl refl
 
-letters_are : (quote : ℕ) (text : List ℕ) → is_quote quote ≡ true → list_all (λ byte. not (eqb byte 0)) text ≡ true → AreLetters quote (map (letter_for quote) text) (quote ∷ [])
+letters_are : (quote : ℕ) (text : List ℕ) → is_quote quote ≡ true → list_all (λ byte. not (eqb byte 0)) text ≡ true
+    → AreLetters quote (map (letter_for quote) text) (quote ∷ [])
 letters_are quote [] is some = tt
 letters_are quote (byte ∷ bytes) is some =
     let both = and_parts (not (eqb byte 0)) _ some in
     ((letter_writes quote byte (spellings (map (letter_for quote) bytes) ++ quote ∷ []) is (not-true _ both.0)).0, letters_are quote bytes is both.1)
 
-letters_mean : (quote : ℕ) (text : List ℕ) → is_quote quote ≡ true → list_all (λ byte. not (eqb byte 0)) text ≡ true → text ≡ map meaning (map (letter_for quote) text)
+letters_mean : (quote : ℕ) (text : List ℕ) → is_quote quote ≡ true → list_all (λ byte. not (eqb byte 0)) text ≡ true
+    → text ≡ map meaning (map (letter_for quote) text)
 letters_mean quote [] is some = refl
 letters_mean quote (byte ∷ bytes) is some =
     let both = and_parts (not (eqb byte 0)) _ some in
@@ -84,5 +93,6 @@ letters_mean quote (byte ∷ bytes) is some =
     let rest = letters_mean quote bytes is both.1 in
     cc
 
-pub quotes_stand : (quote : ℕ) (text : List ℕ) → is_quote quote ≡ true → list_all (λ byte. not (eqb byte 0)) text ≡ true → IsQuoted quote (in_quotes quote text) text
+pub quotes_stand : (quote : ℕ) (text : List ℕ) → is_quote quote ≡ true → list_all (λ byte. not (eqb byte 0)) text ≡ true
+    → IsQuoted quote (in_quotes quote text) text
 quotes_stand quote text is some = (map (letter_for quote) text, refl, letters_are quote text is some, letters_mean quote text is some)

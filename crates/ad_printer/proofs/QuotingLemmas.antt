@@ -1,5 +1,6 @@
 -- Bytes that stand between quotes as they are.
-use Rattle.std.proofs.Common.{◌≡◌, ℕ, suc, ◌-◌, ◌≤◌, length, slice_index, append_assoc, take_all, true, false, eqb, ltb, ◌||◌, List, [], ◌∷◌, ◌++◌, map, take, drop, refl, sym, ◌∙◌, ap, inl, inr, arith}
+use Rattle.std.proofs.Common.{◌≡◌, ℕ, suc, ◌-◌, ◌≤◌, length, slice_index, append_assoc, take_all, true, false, eqb, ltb, ◌||◌, List, []}
+use Rattle.std.proofs.Common.{◌∷◌, ◌++◌, map, take, drop, refl, sym, ◌∙◌, ap, inl, inr, arith}
 use Rattle.std.proofs.lemmas.Bool.{cases_Bool, or_parts, not-true}
 use Rattle.std.proofs.lemmas.Bool.Decides.{nat_tests}
 use Rattle.std.specs.List.{prefix_len}
@@ -20,7 +21,9 @@ letter_plain quote byte is =
     rw (more.0, back, tab, feed, form, ret, more.1, parts.1) refl
 
 -- the letters of a text: those of the bytes at its front that stand as they are are these bytes
-pub plain_front : (quote : ℕ) (bytes : List ℕ) → spellings (map (letter_for quote) bytes) ≡ take (prefix_len (stands_plain quote) bytes) bytes ++ spellings (map (letter_for quote) (drop (prefix_len (stands_plain quote) bytes) bytes))
+pub plain_front : (quote : ℕ) (bytes : List ℕ)
+    → spellings (map (letter_for quote) bytes) ≡ take (prefix_len (stands_plain quote) bytes) bytes ++ spellings (map (letter_for quote)
+    (drop (prefix_len (stands_plain quote) bytes) bytes))
 plain_front quote [] = refl
 plain_front quote (byte ∷ bytes) =
     elim (cases_Bool (stands_plain quote byte)) [
@@ -34,7 +37,8 @@ plain_front quote (byte ∷ bytes) =
     ]
 
 -- one turn: the bytes at the front as they are
-pub front_turn : (quote n : ℕ) (rest front back out middle start : List ℕ) → front ≡ take n rest → back ≡ drop n rest → n ≡ prefix_len (stands_plain quote) rest → middle ≡ out ++ front
+pub front_turn : (quote n : ℕ) (rest front back out middle start : List ℕ) → front ≡ take n rest → back ≡ drop n rest
+    → n ≡ prefix_len (stands_plain quote) rest → middle ≡ out ++ front
     → out ++ spellings (map (letter_for quote) rest) ≡ start → middle ++ spellings (map (letter_for quote) back) ≡ start
 front_turn quote n rest front back out middle start front_is back_is n_is is left =
     let letters : List ℕ → List ℕ = λ bytes. spellings (map (letter_for quote) bytes) in
@@ -45,7 +49,8 @@ front_turn quote n rest front back out middle start front_is back_is n_is is lef
     ∙ ap (λ (t : List ℕ). out ++ t) (sym (plain_front quote rest)) ∙ left
 
 -- and the letter of the byte behind them
-pub letter_turn : (quote : ℕ) (back middle new start : List ℕ) → 1 ≤ length back → new ≡ middle ++ spelling (letter_for quote (slice_index back 0)) → middle ++ spellings (map (letter_for quote) back) ≡ start
+pub letter_turn : (quote : ℕ) (back middle new start : List ℕ) → 1 ≤ length back → new ≡ middle ++ spelling (letter_for quote (slice_index back 0))
+    → middle ++ spellings (map (letter_for quote) back) ≡ start
     → new ++ spellings (map (letter_for quote) (take (length back - 1) (drop 1 back))) ≡ start
 letter_turn quote [] middle new start some is left = absurd (omega arith)
 letter_turn quote (byte ∷ bytes) middle new start some is left =

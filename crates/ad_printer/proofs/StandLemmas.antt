@@ -1,5 +1,6 @@
 -- Pieces stand side by side as the lexer's items: each stands before the text of those behind it.
-use Rattle.std.proofs.Common.{◌≡◌, ℕ, suc, ◌<◌, ◌≤◌, Bool, true, false, not, eqb, pos, negsuc, decimal, codes, List, [], ◌∷◌, ◌++◌, slice_index, refl, sym, ◌∙◌, ap, subst, inl, inr, arith, append_assoc, append-nil, IsUtf8}
+use Rattle.std.proofs.Common.{◌≡◌, ℕ, suc, ◌<◌, ◌≤◌, Bool, true, false, not, eqb, pos, negsuc, decimal, codes, List, [], ◌∷◌, ◌++◌}
+use Rattle.std.proofs.Common.{slice_index, refl, sym, ◌∙◌, ap, subst, inl, inr, arith, append_assoc, append-nil, IsUtf8}
 use Rattle.std.proofs.lemmas.Bool.{cases_Bool, and_parts, or_right, true≢false}
 use Rattle.std.proofs.lemmas.Bool.Decides.{nat_tests}
 use Rattle.std.proofs.lemmas.Grind.{flat_map-append}
@@ -88,7 +89,8 @@ pub ascii_utf8 : (bytes : List ℕ) → list_all is_ascii bytes ≡ true → IsU
 ascii_utf8 bytes is = subst IsUtf8 (append-nil bytes) (put_ascii bytes [] is IsUtf8-nil)
 
 -- a token of ASCII bytes before more pieces
-pub put-token : (kind : TokenKind) (bytes : List ℕ) (is : List Item) (after : List ℕ) → Spells kind bytes → IsUtf8 bytes → Ends kind bytes (slice_index (text_of is ++ after) 0) → Stand is after → Stand (token kind bytes ∷ is) after
+pub put-token : (kind : TokenKind) (bytes : List ℕ) (is : List Item) (after : List ℕ) → Spells kind bytes → IsUtf8 bytes
+    → Ends kind bytes (slice_index (text_of is ++ after) 0) → Stand is after → Stand (token kind bytes ∷ is) after
 put-token kind bytes is after spells utf8 ends s = (alone_token kind bytes (text_of is ++ after) spells ends, utf8, s)
 
 pub put-space : (is : List Item) (after : List ℕ) → Stand is after → Stand (space ∷ is) after
@@ -114,7 +116,8 @@ word_first (byte ∷ bytes) after is = (and_parts (begins_word byte) _ is).0
 pub record NameStands (text : List ℕ) : Type 0 where
   pub no_equals : (after : List ℕ) → eqb (slice_index (bytes_of (name_piece text) ++ after) 0) 61 ≡ false
   pub no_digit : (after : List ℕ) → is_ascii_digit (slice_index (bytes_of (name_piece text) ++ after) 0) ≡ false
-  pub put : (is : List Item) (after : List ℕ) → is_word_byte (slice_index (text_of is ++ after) 0) ≡ false → Stand is after → Stand (name_piece text ∷ is) after
+  pub put : (is : List Item) (after : List ℕ) → is_word_byte (slice_index (text_of is ++ after) 0) ≡ false → Stand is after
+      → Stand (name_piece text ∷ is) after
 
 name_by : (text : List ℕ) (is : Bool) → is_plain_name text ≡ is → IsNameText text → NameStands text
 name_by text true is made =
@@ -124,14 +127,23 @@ name_by text true is made =
     record {
       no_equals = λ after. rw is (no_equals (slice_index (text ++ after) 0) (word_first text after both.0));
       no_digit = λ after. rw is (no_digit (slice_index (text ++ after) 0) (word_first text after both.0));
-      put = λ items after ends s. rw is (alone_token kinds.Plain text (text_of items ++ after) (both.0, plain) (ends_by (slice_index (text_of items ++ after) 0) ends), made.0.0, s);
+      put = λ items after ends s. rw is (
+        alone_token kinds.Plain text (text_of items ++ after) (both.0, plain)
+            (ends_by (slice_index (text_of items ++ after) 0) ends),
+        made.0.0,
+        s,
+      );
     }
 name_by text false is made =
     let quoted = quotes_stand 39 text refl made.0.1 in
     record {
       no_equals = λ after. rw is refl;
       no_digit = λ after. rw is refl;
-      put = λ items after ends s. rw is (alone_token kinds.Quoted (in_quotes 39 text) (text_of items ++ after) (text, quoted, made.1) tt, quoted_spelling 39 (in_quotes 39 text) text refl quoted made.0.0, s);
+      put = λ items after ends s. rw is (
+        alone_token kinds.Quoted (in_quotes 39 text) (text_of items ++ after) (text, quoted, made.1) tt,
+        quoted_spelling 39 (in_quotes 39 text) text refl quoted made.0.0,
+        s,
+      );
     }
 
 pub name_stands : (text : List ℕ) → IsNameText text → NameStands text
@@ -150,7 +162,8 @@ no_dot k after a =
     ]
 
 -- a number begins with no `=`
-digit_first : (kind : TokenKind) (bytes after : List ℕ) → is_ascii_digit (slice_index (bytes ++ after) 0) ≡ true → eqb (slice_index (text_of (token kind bytes ∷ []) ++ after) 0) 61 ≡ false
+digit_first : (kind : TokenKind) (bytes after : List ℕ) → is_ascii_digit (slice_index (bytes ++ after) 0) ≡ true
+    → eqb (slice_index (text_of (token kind bytes ∷ []) ++ after) 0) 61 ≡ false
 digit_first kind bytes after digit =
     let same : text_of (token kind bytes ∷ []) ++ after ≡ bytes ++ after = ap (λ (t : List ℕ). t ++ after) (append-nil bytes) in
     rw same (digit_no_equals (slice_index (bytes ++ after) 0) digit)
@@ -162,7 +175,9 @@ decimal_ends : (byte : ℕ) → is_word_byte byte ≡ false → eqb byte 46 ≡ 
 decimal_ends byte word dot = rw (word, dot) refl
 
 -- a reserved word's bytes begin with no `=`
-reserved_stands : (bytes : List ℕ) → Spells kinds.Reserved bytes → IsUtf8 bytes → ((after : List ℕ) → eqb (slice_index (text_of (token kinds.Reserved bytes ∷ []) ++ after) 0) 61 ≡ false) → Stands 0 (token kinds.Reserved bytes ∷ [])
+reserved_stands : (bytes : List ℕ) → Spells kinds.Reserved bytes → IsUtf8 bytes
+    → ((after : List ℕ) → eqb (slice_index (text_of (token kinds.Reserved bytes ∷ []) ++ after) 0) 61 ≡ false)
+    → Stands 0 (token kinds.Reserved bytes ∷ [])
 reserved_stands bytes spells utf8 begins = record {
   stand = λ after a. put-token kinds.Reserved bytes [] after spells utf8 (ends_by (slice_index after 0) a.no_word) tt;
   begins = begins;
@@ -174,21 +189,26 @@ literal_stands literals.Error made = reserved_stands (codes "error") (refl, refl
 literal_stands (literals.Boolean true) made = reserved_stands (codes "true") (refl, refl) (ascii_utf8 (codes "true") refl) (λ after. refl)
 literal_stands (literals.Boolean false) made = reserved_stands (codes "false") (refl, refl) (ascii_utf8 (codes "false") refl) (λ after. refl)
 literal_stands (literals.Integer (pos n)) made = record {
-  stand = λ after a. put-token kinds.Int (decimal n) [] after (decimal_integer n made).0 (IsUtf8-from_ascii (decimal n) (IsAscii-decimal n (omega arith))) (integer_ends (decimal n) (slice_index after 0) a.no_word (no_dot 0 after a)) tt;
+  stand =
+      λ after a. put-token kinds.Int (decimal n) [] after (decimal_integer n made).0 (IsUtf8-from_ascii (decimal n) (IsAscii-decimal n (omega arith)))
+      (integer_ends (decimal n) (slice_index after 0) a.no_word (no_dot 0 after a)) tt;
   begins = λ after. digit_first kinds.Int (decimal n) after (integer_begins (decimal n) after (decimal_integer n made).0);
 }
 literal_stands (literals.Integer (negsuc n)) made = absurd made
 literal_stands (literals.Decimal (pos n)) made =
     let spells = (size_text_decimal n made).0 in
     record {
-      stand = λ after a. put-token kinds.Dec (size_text n) [] after spells (ascii_utf8 (size_text n) (decimal_ascii (size_text n) spells)) (decimal_ends (slice_index after 0) a.no_word (no_dot 0 after a)) tt;
+      stand =
+          λ after a. put-token kinds.Dec (size_text n) [] after spells (ascii_utf8 (size_text n) (decimal_ascii (size_text n) spells))
+          (decimal_ends (slice_index after 0) a.no_word (no_dot 0 after a)) tt;
       begins = λ after. digit_first kinds.Dec (size_text n) after (decimal_begins (size_text n) after spells);
     }
 literal_stands (literals.Decimal (negsuc n)) made = absurd made
 literal_stands (literals.Str text) made =
     let quoted = quotes_stand 34 text refl made.1 in
     record {
-      stand = λ after a. put-token kinds.Str (in_quotes 34 text) [] after (text, quoted) (quoted_spelling 34 (in_quotes 34 text) text refl quoted made.0) tt tt;
+      stand =
+          λ after a. put-token kinds.Str (in_quotes 34 text) [] after (text, quoted) (quoted_spelling 34 (in_quotes 34 text) text refl quoted made.0) tt tt;
       begins = λ after. refl;
     }
 
@@ -206,21 +226,28 @@ dot_ends : (byte : ℕ) → is_ascii_digit byte ≡ false → ends_symbol (codes
 dot_ends byte is = rw is refl
 
 -- a dot before a name
-pub put-selection : (text : List ℕ) (after : List ℕ) → IsNameText text → is_word_byte (slice_index after 0) ≡ false → Stand (symbol (codes ".") ∷ name_piece text ∷ []) after
+pub put-selection : (text : List ℕ) (after : List ℕ) → IsNameText text → is_word_byte (slice_index after 0) ≡ false
+    → Stand (symbol (codes ".") ∷ name_piece text ∷ []) after
 put-selection text after made no_word =
     let name = name_stands text made in
-    let first : is_ascii_digit (slice_index (text_of (name_piece text ∷ []) ++ after) 0) ≡ false = rw (append-nil (bytes_of (name_piece text))) (name.no_digit after) in
-    put-token kinds.Symbol (codes ".") (name_piece text ∷ []) after refl (ascii_utf8 (codes ".") refl) (dot_ends (slice_index (text_of (name_piece text ∷ []) ++ after) 0) first)
+    let first : is_ascii_digit (slice_index (text_of (name_piece text ∷ []) ++ after) 0) ≡ false =
+    rw (append-nil (bytes_of (name_piece text))) (name.no_digit after) in
+    put-token kinds.Symbol (codes ".") (name_piece text ∷ []) after refl (ascii_utf8 (codes ".") refl)
+    (dot_ends (slice_index (text_of (name_piece text ∷ []) ++ after) 0) first)
     (name.put [] after no_word tt)
 
 pub scoped_stands : (scope : Scope) (text : List ℕ) → IsNameText text → Stands 0 (scoped scope text)
 scoped_stands scopes.Bare text made = name_alone text made
 scoped_stands scopes.My text made = record {
-  stand = λ after a. put-token kinds.Plain (codes "MY") (symbol (codes ".") ∷ name_piece text ∷ []) after (refl, refl) (ascii_utf8 (codes "MY") refl) refl (put-selection text after made a.no_word);
+  stand =
+      λ after a. put-token kinds.Plain (codes "MY") (symbol (codes ".") ∷ name_piece text ∷ []) after (refl, refl) (ascii_utf8 (codes "MY") refl) refl
+      (put-selection text after made a.no_word);
   begins = λ after. refl;
 }
 scoped_stands scopes.Target text made = record {
-  stand = λ after a. put-token kinds.Plain (codes "TARGET") (symbol (codes ".") ∷ name_piece text ∷ []) after (refl, refl) (ascii_utf8 (codes "TARGET") refl) refl (put-selection text after made a.no_word);
+  stand =
+      λ after a. put-token kinds.Plain (codes "TARGET") (symbol (codes ".") ∷ name_piece text ∷ []) after (refl, refl) (ascii_utf8 (codes "TARGET") refl)
+      refl (put-selection text after made a.no_word);
   begins = λ after. refl;
 }
 
@@ -236,10 +263,12 @@ pub record Divider (divider : List Item) : Type 0 where
   pub no_equals : eqb first 61 ≡ false
   pub stands : (after : List ℕ) → Stand divider after
 
-pub put-spaced : (bytes : List ℕ) (is : List Item) (after : List ℕ) → is_symbol bytes ≡ true → list_all is_ascii bytes ≡ true → ends_symbol bytes 32 ≡ true → Stand is after → Stand (symbol bytes ∷ space ∷ is) after
+pub put-spaced : (bytes : List ℕ) (is : List Item) (after : List ℕ) → is_symbol bytes ≡ true → list_all is_ascii bytes ≡ true
+    → ends_symbol bytes 32 ≡ true → Stand is after → Stand (symbol bytes ∷ space ∷ is) after
 put-spaced bytes is after spells ascii ends s = put-token kinds.Symbol bytes (space ∷ is) after spells (ascii_utf8 bytes ascii) ends (put-space is after s)
 
-pub spaced-divider : (bytes : List ℕ) → is_symbol bytes ≡ true → list_all is_ascii bytes ≡ true → ends_symbol bytes 32 ≡ true → Divider (spaced bytes)
+pub spaced-divider : (bytes : List ℕ) → is_symbol bytes ≡ true → list_all is_ascii bytes ≡ true → ends_symbol bytes 32 ≡ true
+    → Divider (spaced bytes)
 spaced-divider bytes spells ascii ends = record {
   first = 32;
   rest = bytes ++ 32 ∷ [];
@@ -293,16 +322,20 @@ semicolon-divider = record {
   stands = λ after. put-spaced (codes ";") [] after refl refl refl tt;
 }
 
-divider_text : (divider : List Item) (d : Divider divider) (is : List Item) (after : List ℕ) → text_of (divider ++ is) ++ after ≡ d.first ∷ ((d.rest ++ text_of is) ++ after)
+divider_text : (divider : List Item) (d : Divider divider) (is : List Item) (after : List ℕ)
+    → text_of (divider ++ is) ++ after ≡ d.first ∷ ((d.rest ++ text_of is) ++ after)
 divider_text divider d is after = ap (λ (t : List ℕ). t ++ after) (text_of-append divider is ∙ ap (λ (t : List ℕ). t ++ text_of is) d.text_is)
 
 pub ahead-divider : (divider : List Item) (d : Divider divider) (is : List Item) (after : List ℕ) (k : ℕ) → Ahead k (text_of (divider ++ is) ++ after)
-ahead-divider divider d is after k = subst (Ahead k) (sym (divider_text divider d is after)) (ahead-of d.first ((d.rest ++ text_of is) ++ after) d.no_word d.no_dot k)
+ahead-divider divider d is after k =
+    subst (Ahead k) (sym (divider_text divider d is after)) (ahead-of d.first ((d.rest ++ text_of is) ++ after) d.no_word d.no_dot k)
 
 -- pieces, what divides them from others, and these
-pub put-divided : (k : ℕ) (divider xs ys : List Item) (after : List ℕ) → Divider divider → Stands k xs → Stand ys after → Stand (xs ++ (divider ++ ys)) after
+pub put-divided : (k : ℕ) (divider xs ys : List Item) (after : List ℕ) → Divider divider → Stands k xs → Stand ys after
+    → Stand (xs ++ (divider ++ ys)) after
 put-divided k divider xs ys after d a b =
-    Stand-append xs (divider ++ ys) after (a.stand (text_of (divider ++ ys) ++ after) (ahead-divider divider d ys after k)) (Stand-append divider ys after (d.stands (text_of ys ++ after)) b)
+    Stand-append xs (divider ++ ys) after (a.stand (text_of (divider ++ ys) ++ after) (ahead-divider divider d ys after k))
+    (Stand-append divider ys after (d.stands (text_of ys ++ after)) b)
 
 pub begins-append : (k : ℕ) (xs ys : List Item) (after : List ℕ) → Stands k xs → eqb (slice_index (text_of (xs ++ ys) ++ after) 0) 61 ≡ false
 begins-append k xs ys after a = rw (text-both xs ys after) (a.begins (text_of ys ++ after))
@@ -312,17 +345,22 @@ abbrev pub AllStand : ℕ → List (List Item) → Type 0
 AllStand k [] = Unit {0}
 AllStand k (p ∷ ps) = Stands k p × AllStand k ps
 
-pub behind-ahead : (divider : List Item) (d : Divider divider) (k : ℕ) (ps : List (List Item)) (after : List ℕ) → Ahead k after → Ahead k (text_of (behind divider ps) ++ after)
+pub behind-ahead : (divider : List Item) (d : Divider divider) (k : ℕ) (ps : List (List Item)) (after : List ℕ) → Ahead k after
+    → Ahead k (text_of (behind divider ps) ++ after)
 behind-ahead divider d k [] after a = a
 behind-ahead divider d k (p ∷ ps) after a = ahead-divider divider d (p ++ behind divider ps) after k
 
-pub behind-stands : (divider : List Item) (d : Divider divider) (k : ℕ) (ps : List (List Item)) (after : List ℕ) → AllStand k ps → Ahead k after → Stand (behind divider ps) after
+pub behind-stands : (divider : List Item) (d : Divider divider) (k : ℕ) (ps : List (List Item)) (after : List ℕ) → AllStand k ps → Ahead k after
+    → Stand (behind divider ps) after
 behind-stands divider d k [] after all a = tt
 behind-stands divider d k (p ∷ ps) after all a =
     Stand-append divider (p ++ behind divider ps) after (d.stands (text_of (p ++ behind divider ps) ++ after))
-    (Stand-append p (behind divider ps) after (all.0.stand (text_of (behind divider ps) ++ after) (behind-ahead divider d k ps after a)) (behind-stands divider d k ps after all.1 a))
+    (Stand-append p (behind divider ps) after (all.0.stand (text_of (behind divider ps) ++ after) (behind-ahead divider d k ps after a))
+    (behind-stands divider d k ps after all.1 a))
 
 -- the first of a row, and the others behind it
-pub row-stands : (divider : List Item) (d : Divider divider) (j k : ℕ) (p : List Item) (ps : List (List Item)) (after : List ℕ) → Stands j p → AllStand k ps → Ahead j after → Ahead k after → Stand (p ++ behind divider ps) after
+pub row-stands : (divider : List Item) (d : Divider divider) (j k : ℕ) (p : List Item) (ps : List (List Item)) (after : List ℕ) → Stands j p
+    → AllStand k ps → Ahead j after → Ahead k after → Stand (p ++ behind divider ps) after
 row-stands divider d j k p ps after first all a b =
-    Stand-append p (behind divider ps) after (first.stand (text_of (behind divider ps) ++ after) (behind-ahead divider d j ps after a)) (behind-stands divider d k ps after all b)
+    Stand-append p (behind divider ps) after (first.stand (text_of (behind divider ps) ++ after) (behind-ahead divider d j ps after a))
+    (behind-stands divider d k ps after all b)

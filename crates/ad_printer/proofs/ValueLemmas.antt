@@ -1,5 +1,6 @@
 -- The texts of a list's elements, one after another.
-use Rattle.std.proofs.Common.{◌≡◌, ℕ, zero, suc, ◌+◌, List, [], ◌∷◌, ◌++◌, codes, drop, slice_get, Some, sym, ◌∙◌, ap, append_assoc, add-one}
+use Rattle.std.proofs.Common.{◌≡◌, ℕ, zero, suc, ◌+◌, List, [], ◌∷◌, ◌++◌, codes, drop, slice_get, Some, sym, ◌∙◌, ap, append_assoc}
+use Rattle.std.proofs.Common.{add-one}
 use Rattle.ad_value.specs.Plain.{Plain, plains_of}
 use Rattle.ad_printer.specs.Values.{value_text, texts_behind}
 
@@ -8,7 +9,8 @@ drop-at [] i p e = absurd (cc)
 drop-at (q ∷ ps) zero p e = let same : q ≡ p = cc in ap (λ z. z ∷ ps) same
 drop-at (q ∷ ps) (suc i) p e = drop-at ps i p e
 
-pub element_step : (ps : List Plain) (i : ℕ) (p : Plain) (out middle new start : List ℕ) → slice_get ps i ≡ Some p → middle ≡ out ++ codes ", " → new ≡ middle ++ value_text p
+pub element_step : (ps : List Plain) (i : ℕ) (p : Plain) (out middle new start : List ℕ) → slice_get ps i ≡ Some p → middle ≡ out ++ codes ", "
+    → new ≡ middle ++ value_text p
     → out ++ texts_behind (plains_of (drop i ps)) ≡ start → new ++ texts_behind (plains_of (drop (i + 1) ps)) ≡ start
 element_step ps i p out middle new start at is value left =
     let rest : List ℕ = texts_behind (plains_of (drop (suc i) ps)) in

@@ -82,7 +82,8 @@ literal_word (literals.Integer (pos n)) made = ap (λ (v : ℕ). constant (liter
 literal_word (literals.Integer (negsuc n)) made = absurd made
 literal_word (literals.Decimal (pos n)) made = ap (λ (v : ℕ). constant (literals.Decimal (pos v)) ∷ []) (size_text_decimal n made).1
 literal_word (literals.Decimal (negsuc n)) made = absurd made
-literal_word (literals.Str text) made = ap (λ t. constant (literals.Str t) ∷ []) (quoted_content 34 (in_quotes 34 text) text refl (quotes_stand 34 text refl made.1))
+literal_word (literals.Str text) made =
+    ap (λ t. constant (literals.Str t) ∷ []) (quoted_content 34 (in_quotes 34 text) text refl (quotes_stand 34 text refl made.1))
 
 -- ---- operators between operands
 

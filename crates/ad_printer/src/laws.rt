@@ -22,7 +22,8 @@ pub fn printed_trees_are_read()
     ensures expression { (x : Inline) → IsMade x → height x ≤ height_limit → Spells IsExpr (printed x) x }
     ensures one_expression { (x other : Inline) → IsMade x → height x ≤ height_limit → Spells IsExpr (printed x) other → other ≡ x }
     ensures ad { (ds : Defs) → IsMade (inner ds) → height (inner ds) ≤ height_limit → Spells IsRoot (printed (inner ds)) (inner ds) }
-    ensures one_ad { (ds : Defs) (other : Inline) → IsMade (inner ds) → height (inner ds) ≤ height_limit → Spells IsRoot (printed (inner ds)) other → other ≡ inner ds }
+    ensures one_ad { (ds : Defs) (other : Inline) → IsMade (inner ds) → height (inner ds) ≤ height_limit → Spells IsRoot (printed (inner ds)) other
+        → other ≡ inner ds }
 {}
 
 /// So no two such trees have one text.

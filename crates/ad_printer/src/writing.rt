@@ -5,7 +5,8 @@ ghost use Rattle.ad_lexer.specs.Tokens.{blank};
 ghost use Rattle.ad_tree.specs.Ad.{ad_frames};
 ghost use Rattle.ad_tree.specs.Frames.{attributes_at};
 ghost use Rattle.ad_tree.specs.Inline.{opened};
-ghost use Rattle.ad_tree.specs.Tree.{binary, call as call_label, choice, list as list_label, node, one, pack, select, subscript, three, tree, trees, two, unary};
+ghost use Rattle.ad_tree.specs.Tree.{binary, call as call_label, choice, list as list_label, node, one, pack, select, subscript, three, tree, trees, two};
+ghost use Rattle.ad_tree.specs.Tree.{unary};
 ghost use Rattle.ad_printer.specs.Printed.{pieces};
 ghost use Rattle.ad_printer.specs.Writing.{Adds, definition_in, definitions_in, part_in, pieces_in, row_in};
 

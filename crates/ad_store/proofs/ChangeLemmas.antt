@@ -1,211 +1,324 @@
--- An ad takes the place of another, or leaves.
-use Rattle.std.proofs.Common.{◌≡◌, ◌≢◌, ℕ, ◌+◌, ◌≤◌, Bool, true, false, not, ◌&&◌, ◌||◌, cond, eqb, List, [], ◌∷◌, length, Option, None, Some, Vec, is_some, bytes_eq, refl, sym, ◌∙◌, ap, subst, arith}
-use Rattle.std.specs.declared.alloc.Global.{Global}
-use Rattle.std.specs.List.{list_any}
-use Rattle.std.specs.Option.{option_map_or}
-use Rattle.std.proofs.lemmas.Bool.Decides.{nat_tests}
+-- An ad takes the place of another, leaves, or comes.
+use Rattle.std.proofs.Common.{◌≡◌, ◌≢◌, ℕ, ◌+◌, ◌≤◌, ◌⊎◌, inl, inr, Bool, true, false, ◌||◌, cond, eqb, List, [], ◌∷◌, ◌++◌, length, Option, None, Some}
+use Rattle.std.proofs.Common.{is_some, bytes_eq, refl, sym, ◌∙◌, ap, subst, arith}
 use Rattle.std.proofs.lemmas.List.Sums.{sum_by-cons}
+use Rattle.std.proofs.lemmas.Option.{same_Some}
 use Rattle.std.proofs.lemmas.Slice.Eq.{bytes_eq-Decides}
-use Rattle.slab.specs.Slab.{Slab, Updates, get}
-use Rattle.indexmap.specs.IndexMap.{shift_remove_entry}
+use Rattle.slab.specs.Slab.{ContainsKey, Slab, Updates, get}
+use Rattle.slot_order.specs.Slots.{are_apart, with_last, without as slots_left}
 use Rattle.ad_store.specs.declared.entry.Entry.{Entry}
-use Rattle.ad_store.specs.Held.{advert_of, adverts, are_held, slots_of}
-use Rattle.ad_store.specs.Stock.{Advert, has, is_named, placed, slot_beside, slots_without, text_held, without}
-use Rattle.ad_store.proofs.HeldLemmas.{Name, Parts, neither, has-lookup, others_held, others_stay, parts_of, slot_beside-lookup}
-use Rattle.ad_store.proofs.Lookups.{lookup}
-
--- the names' test
-abbrev pub named : List ℕ → Vec ℕ Global → Bool
-named name key = bytes_eq name key.items
-
-some_inner : (a b : ℕ) → Some a ≡ Some b → a ≡ b
-some_inner a b is = cc
-
--- a slot that is found stands among the slots
-found_among : (name : List ℕ) (names : List Name) (key : ℕ) → lookup (named name) names ≡ Some key → list_any (λ s. eqb s key) (slots_of names) ≡ true
-found_among name [] key found = absurd (cc)
-found_among name (n ∷ names) key found = by_name (named name n.0) found (λ rest. found_among name names key rest)
-  where
-    by_name : (b : Bool) → cond b (Some n.1) (lookup (named name) names) ≡ Some key → (lookup (named name) names ≡ Some key → list_any (λ s. eqb s key) (slots_of names) ≡ true) → (eqb n.1 key || list_any (λ s. eqb s key) (slots_of names)) ≡ true
-    by_name true is later = let same = some_inner n.1 key is in let test : eqb n.1 key ≡ true = grind (arith, nat_tests) in ap (λ b. b || list_any (λ s. eqb s key) (slots_of names)) test
-    by_name false is later = either_true (eqb n.1 key) _ (later is)
-      where
-        either_true : (a b : Bool) → b ≡ true → (a || b) ≡ true
-        either_true true b so = refl
-        either_true false b so = so
-
--- so it is another than that of a name before
-apart_from_later : (name : List ℕ) (n : Name) (names : List Name) (key : ℕ) → list_any (λ s. eqb s n.1) (slots_of names) ≡ false → lookup (named name) names ≡ Some key → n.1 ≢ key
-apart_from_later name n names key apart found = λ same.
-    let among = found_among name names key found in
-    let among_same = subst (λ k. list_any (λ s. eqb s k) (slots_of names) ≡ true) (sym same) among in
-    absurd (cc)
-
--- ---- an ad in the place of another
-
-module _ (old new : Slab Entry) (key : ℕ) (entry : Entry) (name : List ℕ) (changes : Updates old new key (Some entry)) (is_name : entry.name ≡ name) where
-  pub replaced_held : (names : List Name) → lookup (named name) names ≡ Some key → are_held old names ≡ true → are_held new names ≡ true
-  replaced_held [] found held = absurd (cc)
-  replaced_held (n ∷ names) found held = by_name (named name n.0) refl found (λ rest. replaced_held names rest first.rest)
-    where
-      first : Parts old n names
-      first = parts_of old n names held
-
-      by_name : (b : Bool) → named name n.0 ≡ b → cond b (Some n.1) (lookup (named name) names) ≡ Some key → (lookup (named name) names ≡ Some key → are_held new names ≡ true) → are_held new (n ∷ names) ≡ true
-      by_name true is at later =
-          let here = some_inner n.1 key at in
-          let entry_here : get new n.1 ≡ Some entry = ap (get new) here ∙ changes.changed in
-          let same_name : entry.name ≡ n.0.items = is_name ∙ (bytes_eq-Decides name n.0.items).0 is in
-          let apart = subst (λ k. list_any (λ s. eqb s k) (slots_of names) ≡ false) here first.apart in
-          ap (λ o. (option_map_or (λ e. bytes_eq e.name n.0.items) o false && not (list_any (λ s. eqb s n.1) (slots_of names))) && are_held new names) entry_here
-          ∙ ap (λ b. (b && not (list_any (λ s. eqb s n.1) (slots_of names))) && are_held new names) ((bytes_eq-Decides entry.name n.0.items).1 same_name)
-          ∙ ap (λ b. not b && are_held new names) first.apart
-          ∙ others_held old new key (Some entry) names changes apart
-          ∙ first.rest
-      by_name false is at later =
-          let same = changes.others n.1 (apart_from_later name n names key first.apart at) in
-          ap (λ o. (option_map_or (λ e. bytes_eq e.name n.0.items) o false && not (list_any (λ s. eqb s n.1) (slots_of names))) && are_held new names) (same ∙ first.held)
-          ∙ ap (λ b. (b && not (list_any (λ s. eqb s n.1) (slots_of names))) && are_held new names) ((bytes_eq-Decides first.entry.name n.0.items).1 first.named)
-          ∙ ap (λ b. not b && are_held new names) first.apart
-          ∙ later at
-
-  pub replaced_ads : (names : List Name) → lookup (named name) names ≡ Some key → are_held old names ≡ true → adverts new names ≡ placed (advert_of name (Some entry)) (adverts old names)
-  replaced_ads [] found held = absurd (cc)
-  replaced_ads (n ∷ names) found held = by_name (named name n.0) refl found (λ rest. replaced_ads names rest first.rest)
-    where
-      first : Parts old n names
-      first = parts_of old n names held
-
-      by_name : (b : Bool) → named name n.0 ≡ b → cond b (Some n.1) (lookup (named name) names) ≡ Some key → (lookup (named name) names ≡ Some key → adverts new names ≡ placed (advert_of name (Some entry)) (adverts old names)) → adverts new (n ∷ names) ≡ cond b (advert_of name (Some entry) ∷ adverts old names) (advert_of n.0.items (get old n.1) ∷ placed (advert_of name (Some entry)) (adverts old names))
-      by_name true is at later =
-          let here = some_inner n.1 key at in
-          let entry_here : get new n.1 ≡ Some entry = ap (get new) here ∙ changes.changed in
-          let apart = subst (λ k. list_any (λ s. eqb s k) (slots_of names) ≡ false) here first.apart in
-          ap (λ o. advert_of n.0.items o ∷ adverts new names) entry_here
-          ∙ ap (λ k. advert_of k (Some entry) ∷ adverts new names) (sym ((bytes_eq-Decides name n.0.items).0 is))
-          ∙ ap (λ ads. advert_of name (Some entry) ∷ ads) (others_stay old new key (Some entry) names changes apart)
-      by_name false is at later =
-          ap (λ o. advert_of n.0.items o ∷ adverts new names) (changes.others n.1 (apart_from_later name n names key first.apart at))
-          ∙ ap (λ ads. advert_of n.0.items (get old n.1) ∷ ads) (later at)
-
--- ---- an ad that leaves
-
-any_fewer : (test : Vec ℕ Global → Bool) (names : List Name) (key : ℕ) → list_any (λ s. eqb s key) (slots_of names) ≡ false → list_any (λ s. eqb s key) (slots_of (shift_remove_entry test names)) ≡ false
-any_fewer test [] key none = refl
-any_fewer test (n ∷ names) key none = by_name (test n.0) (any_fewer test names key parts.1)
-  where
-    parts : (eqb n.1 key ≡ false) × (list_any (λ s. eqb s key) (slots_of names) ≡ false)
-    parts = neither _ _ none
-
-    by_name : (b : Bool) → list_any (λ s. eqb s key) (slots_of (shift_remove_entry test names)) ≡ false → list_any (λ s. eqb s key) (slots_of (cond b names (n ∷ shift_remove_entry test names))) ≡ false
-    by_name true fewer = parts.1
-    by_name false fewer = ap (λ b. b || list_any (λ s. eqb s key) (slots_of (shift_remove_entry test names))) parts.0 ∙ fewer
-
-module _ (old new : Slab Entry) (key : ℕ) (name : List ℕ) (changes : Updates old new key None) where
-  pub gone_held : (names : List Name) → lookup (named name) names ≡ Some key → are_held old names ≡ true → are_held new (shift_remove_entry (named name) names) ≡ true
-  gone_held [] found held = absurd (cc)
-  gone_held (n ∷ names) found held = by_name (named name n.0) found (λ rest. gone_held names rest first.rest)
-    where
-      first : Parts old n names
-      first = parts_of old n names held
-
-      left : List Name
-      left = shift_remove_entry (named name) names
-
-      by_name : (b : Bool) → cond b (Some n.1) (lookup (named name) names) ≡ Some key → (lookup (named name) names ≡ Some key → are_held new (shift_remove_entry (named name) names) ≡ true) → are_held new (cond b names (n ∷ shift_remove_entry (named name) names)) ≡ true
-      by_name true at later =
-          let apart = subst (λ k. list_any (λ s. eqb s k) (slots_of names) ≡ false) (some_inner n.1 key at) first.apart in
-          others_held old new key None names changes apart ∙ first.rest
-      by_name false at later =
-          let same = changes.others n.1 (apart_from_later name n names key first.apart at) in
-          ap (λ o. (option_map_or (λ e. bytes_eq e.name n.0.items) o false && not (list_any (λ s. eqb s n.1) (slots_of (shift_remove_entry (named name) names)))) && are_held new (shift_remove_entry (named name) names)) (same ∙ first.held)
-          ∙ ap (λ b. (b && not (list_any (λ s. eqb s n.1) (slots_of (shift_remove_entry (named name) names)))) && are_held new (shift_remove_entry (named name) names)) ((bytes_eq-Decides first.entry.name n.0.items).1 first.named)
-          ∙ ap (λ b. not b && are_held new (shift_remove_entry (named name) names)) (any_fewer (named name) names n.1 first.apart)
-          ∙ later at
-
-  pub gone_ads : (names : List Name) → lookup (named name) names ≡ Some key → are_held old names ≡ true → adverts new (shift_remove_entry (named name) names) ≡ without name (adverts old names)
-  gone_ads [] found held = absurd (cc)
-  gone_ads (n ∷ names) found held = by_name (named name n.0) found (λ rest. gone_ads names rest first.rest)
-    where
-      first : Parts old n names
-      first = parts_of old n names held
-
-      by_name : (b : Bool) → cond b (Some n.1) (lookup (named name) names) ≡ Some key → (lookup (named name) names ≡ Some key → adverts new (shift_remove_entry (named name) names) ≡ without name (adverts old names)) → adverts new (cond b names (n ∷ shift_remove_entry (named name) names)) ≡ cond b (adverts old names) (advert_of n.0.items (get old n.1) ∷ without name (adverts old names))
-      by_name true at later =
-          others_stay old new key None names changes (subst (λ k. list_any (λ s. eqb s k) (slots_of names) ≡ false) (some_inner n.1 key at) first.apart)
-      by_name false at later =
-          ap (λ o. advert_of n.0.items o ∷ adverts new (shift_remove_entry (named name) names)) (changes.others n.1 (apart_from_later name n names key first.apart at))
-          ∙ ap (λ ads. advert_of n.0.items (get old n.1) ∷ ads) (later at)
-
-pub gone_slots : (table : Slab Entry) (name : List ℕ) (names : List Name) → slots_of (shift_remove_entry (named name) names) ≡ slots_without name (adverts table names) (slots_of names)
-gone_slots table name [] = refl
-gone_slots table name (n ∷ names) = by_name (named name n.0) (gone_slots table name names)
-  where
-    by_name : (b : Bool) → slots_of (shift_remove_entry (named name) names) ≡ slots_without name (adverts table names) (slots_of names) → slots_of (cond b names (n ∷ shift_remove_entry (named name) names)) ≡ cond b (slots_of names) (n.1 ∷ slots_without name (adverts table names) (slots_of names))
-    by_name true rest = refl
-    by_name false rest = ap (λ slots. n.1 ∷ slots) rest
-
--- ---- the length of the texts
+use Rattle.ad_store.specs.Held.{AreHeld, advert_of, adverts}
+use Rattle.ad_store.specs.Stock.{Advert, is_named, placed, slots_without, text_held, without}
+use Rattle.ad_store.proofs.HeldLemmas.{among, among-cases, among-here, among-later, apart-first, apart-rest, different, neither, number_of, only, same_number}
 
 abbrev size_of : Advert → ℕ
 size_of advert = advert.size
 
--- the texts together are those of the others and the text of the one that is found
-pub text_held-found : (table : Slab Entry) (name : List ℕ) (key : ℕ) (entry : Entry) (names : List Name) → get table key ≡ Some entry → lookup (named name) names ≡ Some key → text_held (adverts table names) ≡ text_held (without name (adverts table names)) + entry.content.size
-text_held-found table name key entry [] there found = absurd (cc)
-text_held-found table name key entry (n ∷ names) there found = sum_by-cons size_of (advert_of n.0.items (get table n.1)) (adverts table names) ∙ by_name (named name n.0) found (λ rest. text_held-found table name key entry names there rest)
-  where
-    here : Advert
-    here = advert_of n.0.items (get table n.1)
+-- a slot that isn't the first is among the others
+among-rest : (s slot : ℕ) (slots : List ℕ) → eqb s slot ≡ false → among slot (s ∷ slots) ≡ true → among slot slots ≡ true
+among-rest s slot slots other is = sym (ap (λ b. b || among slot slots) other) ∙ is
 
-    by_name : (b : Bool) → cond b (Some n.1) (lookup (named name) names) ≡ Some key → (lookup (named name) names ≡ Some key → text_held (adverts table names) ≡ text_held (without name (adverts table names)) + entry.content.size) → (advert_of n.0.items (get table n.1)).size + text_held (adverts table names) ≡ text_held (cond b (adverts table names) (advert_of n.0.items (get table n.1) ∷ without name (adverts table names))) + entry.content.size
-    by_name true at later =
-        let size : (advert_of n.0.items (get table n.1)).size ≡ entry.content.size = ap (λ o. (advert_of n.0.items o).size) (ap (get table) (some_inner n.1 key at) ∙ there) in
-        omega arith
-    by_name false at later =
-        let first = sum_by-cons size_of (advert_of n.0.items (get table n.1)) (without name (adverts table names)) in
-        let rest = later at in
-        omega arith
+module _ (old new : Slab Entry) (slot : ℕ) (now : Option Entry) (changes : Updates old new slot now) where
+  pub others_stay : (slots : List ℕ) → among slot slots ≡ false → adverts new slots ≡ adverts old slots
+  others_stay [] out = refl
+  others_stay (s ∷ slots) out =
+      let parts = neither _ _ out in
+      ap (λ o. advert_of o ∷ adverts new slots) (changes.others s (different s slot parts.0))
+      ∙ ap (λ ads. advert_of (get old s) ∷ ads) (others_stay slots parts.1)
 
--- and an ad that takes a place brings its text to those of the others
+  module _ (name : List ℕ) where
+    -- what is known of the first of the slots
+    first-test : (s : ℕ) (slots : List ℕ) → ((t : ℕ) → among t (s ∷ slots) ≡ true → is_named name (advert_of (get old t)) ≡ eqb t slot)
+        → is_named name (advert_of (get old s)) ≡ eqb s slot
+    first-test s slots alone = alone s (among-here s slots)
+
+    pub replaced_ads : (advert_of now).name ≡ name → (slots : List ℕ) → ((s : ℕ) → among s slots ≡ true → is_named name (advert_of (get old s)) ≡ eqb s slot)
+        → are_apart slots ≡ true → among slot slots ≡ true → adverts new slots ≡ placed (advert_of now) (adverts old slots)
+    replaced_ads is_name [] alone apart there = absurd (cc)
+    replaced_ads is_name (s ∷ slots) alone apart there =
+        by (eqb s slot) refl (λ rest. replaced_ads is_name slots (λ t is. alone t (among-later s t slots is)) (apart-rest s slots apart) rest)
+      where
+        by : (b : Bool) → eqb s slot ≡ b → (among slot slots ≡ true → adverts new slots ≡ placed (advert_of now) (adverts old slots))
+            → adverts new (s ∷ slots) ≡ cond (is_named (advert_of now).name (advert_of (get old s))) (advert_of now ∷ adverts old slots) (advert_of (get old s)
+            ∷ placed (advert_of now) (adverts old slots))
+        by true is later =
+            let same = number_of s slot is in
+            let test = ap (λ n. is_named n (advert_of (get old s))) is_name ∙ first-test s slots alone ∙ is in
+            ap (λ o. advert_of o ∷ adverts new slots) (ap (get new) same ∙ changes.changed)
+            ∙ ap (λ ads. advert_of now ∷ ads) (others_stay slots (subst (λ k. among k slots ≡ false) same (apart-first s slots apart)))
+            ∙ sym (ap (λ b. cond b (advert_of now ∷ adverts old slots) (advert_of (get old s) ∷ placed (advert_of now) (adverts old slots))) test)
+        by false is later =
+            let test = ap (λ n. is_named n (advert_of (get old s))) is_name ∙ first-test s slots alone ∙ is in
+            ap (λ o. advert_of o ∷ adverts new slots) (changes.others s (different s slot is))
+            ∙ ap (λ ads. advert_of (get old s) ∷ ads) (later (among-rest s slot slots is there))
+            ∙ sym (ap (λ b. cond b (advert_of now ∷ adverts old slots) (advert_of (get old s) ∷ placed (advert_of now) (adverts old slots))) test)
+
+    pub gone_ads : (slots : List ℕ) → ((s : ℕ) → among s slots ≡ true → is_named name (advert_of (get old s)) ≡ eqb s slot) → are_apart slots ≡ true
+        → adverts new (slots_left slot slots) ≡ without name (adverts old slots)
+    gone_ads [] alone apart = refl
+    gone_ads (s ∷ slots) alone apart = by (eqb s slot) refl (gone_ads slots (λ t is. alone t (among-later s t slots is)) (apart-rest s slots apart))
+      where
+        by : (b : Bool) → eqb s slot ≡ b → adverts new (slots_left slot slots) ≡ without name (adverts old slots)
+            → adverts new (cond b slots (s ∷ slots_left slot slots))
+            ≡ cond (is_named name (advert_of (get old s))) (adverts old slots) (advert_of (get old s) ∷ without name (adverts old slots))
+        by true is rest =
+            others_stay slots (subst (λ k. among k slots ≡ false) (number_of s slot is) (apart-first s slots apart))
+            ∙ sym (ap (λ b. cond b (adverts old slots) (advert_of (get old s) ∷ without name (adverts old slots))) (first-test s slots alone ∙ is))
+        by false is rest =
+            ap (λ o. advert_of o ∷ adverts new (slots_left slot slots)) (changes.others s (different s slot is))
+            ∙ ap (λ ads. advert_of (get old s) ∷ ads) rest
+            ∙ sym (ap (λ b. cond b (adverts old slots) (advert_of (get old s) ∷ without name (adverts old slots))) (first-test s slots alone ∙ is))
+
+-- ---- slots and texts
+
+module _ (table : Slab Entry) (name : List ℕ) (slot : ℕ) where
+  pub gone_slots : (slots : List ℕ) → ((s : ℕ) → among s slots ≡ true → is_named name (advert_of (get table s)) ≡ eqb s slot)
+      → slots_left slot slots ≡ slots_without name (adverts table slots) slots
+  gone_slots [] alone = refl
+  gone_slots (s ∷ slots) alone =
+      ap (cond (eqb s slot) slots) (ap (λ l. s ∷ l) (gone_slots slots (λ t is. alone t (among-later s t slots is))))
+      ∙ sym (ap (λ b. cond b slots (s ∷ slots_without name (adverts table slots) slots)) (alone s (among-here s slots)))
+
+  -- the texts together are those of the others and the text of the one in the slot
+  pub text_held-found : (slots : List ℕ) → ((s : ℕ) → among s slots ≡ true → is_named name (advert_of (get table s)) ≡ eqb s slot) → among slot slots ≡ true
+      → text_held (adverts table slots) ≡ text_held (without name (adverts table slots)) + (advert_of (get table slot)).size
+  text_held-found [] alone there = absurd (cc)
+  text_held-found (s ∷ slots) alone there =
+      sum_by-cons size_of (advert_of (get table s)) (adverts table slots)
+      ∙ by (eqb s slot) refl (λ rest. text_held-found slots (λ t is. alone t (among-later s t slots is)) rest)
+      ∙ ap (λ b. text_held (cond b (adverts table slots) (advert_of (get table s) ∷ without name (adverts table slots))) + (advert_of (get table slot)).size)
+      (sym (alone s (among-here s slots)))
+    where
+      by : (b : Bool) → eqb s slot ≡ b
+          → (among slot slots ≡ true → text_held (adverts table slots) ≡ text_held (without name (adverts table slots)) + (advert_of (get table slot)).size)
+          → (advert_of (get table s)).size + text_held (adverts table slots)
+          ≡ text_held (cond b (adverts table slots) (advert_of (get table s) ∷ without name (adverts table slots))) + (advert_of (get table slot)).size
+      by true is later =
+          let same = ap (λ k. (advert_of (get table k)).size) (number_of s slot is) in
+          omega (arith, same)
+      by false is later =
+          let first = sum_by-cons size_of (advert_of (get table s)) (without name (adverts table slots)) in
+          let rest = later (among-rest s slot slots is there) in
+          omega (arith, first, rest)
+
+-- an ad that takes a place brings its text to those of the others
 pub text_held-placed : (advert : Advert) (ads : List Advert) → text_held (placed advert ads) ≡ text_held (without advert.name ads) + advert.size
 text_held-placed advert [] = omega arith
 text_held-placed advert (other ∷ ads) = by_name (is_named advert.name other) (text_held-placed advert ads)
   where
-    by_name : (b : Bool) → text_held (placed advert ads) ≡ text_held (without advert.name ads) + advert.size → text_held (cond b (advert ∷ ads) (other ∷ placed advert ads)) ≡ text_held (cond b ads (other ∷ without advert.name ads)) + advert.size
-    by_name true rest = let first = sum_by-cons size_of advert ads in omega arith
+    by_name : (b : Bool) → text_held (placed advert ads) ≡ text_held (without advert.name ads) + advert.size
+        → text_held (cond b (advert ∷ ads) (other ∷ placed advert ads)) ≡ text_held (cond b ads (other ∷ without advert.name ads)) + advert.size
+    by_name true rest = let first = sum_by-cons size_of advert ads in omega (arith, first)
     by_name false rest =
         let put = sum_by-cons size_of other (placed advert ads) in
         let left = sum_by-cons size_of other (without advert.name ads) in
-        omega arith
+        omega (arith, put, left, rest)
 
--- ---- what is found
+-- ---- slots that come and leave
 
--- the slot of a name has its entry
-pub found_entry : (table : Slab Entry) (name : List ℕ) (key : ℕ) (names : List Name) → lookup (named name) names ≡ Some key → are_held table names ≡ true → (e : Entry) × (get table key ≡ Some e) × (e.name ≡ name)
-found_entry table name key [] found held = absurd (cc)
-found_entry table name key (n ∷ names) found held = by_name (named name n.0) refl found (λ rest. found_entry table name key names rest first.rest)
+pub left-among : (s slot : ℕ) (slots : List ℕ) → are_apart slots ≡ true → among s (slots_left slot slots) ≡ true → (s ≢ slot) × (among s slots ≡ true)
+left-among s slot [] apart is = absurd (cc)
+left-among s slot (t ∷ slots) apart is = by (eqb t slot) refl is (λ rest. left-among s slot slots (apart-rest t slots apart) rest)
   where
-    first : Parts table n names
-    first = parts_of table n names held
+    by : (b : Bool) → eqb t slot ≡ b → among s (cond b slots (t ∷ slots_left slot slots)) ≡ true
+        → (among s (slots_left slot slots) ≡ true → (s ≢ slot) × (among s slots ≡ true)) → (s ≢ slot) × (among s (t ∷ slots) ≡ true)
+    by true tells is later = ((λ same. other same), among-later t s slots is)
+      where
+        other : s ≡ slot → ⊥
+        other same =
+            let first = apart-first t slots apart in
+            let now = subst (λ k. among k slots ≡ true) (same ∙ sym (number_of t slot tells)) is in
+            cc
+    by false tells is later = here (among-cases t s (slots_left slot slots) is)
+      where
+        here : (t ≡ s) ⊎ (among s (slots_left slot slots) ≡ true) → (s ≢ slot) × (among s (t ∷ slots) ≡ true)
+        here (inl same) = ((λ is. different t slot tells (same ∙ is)), subst (λ k. among k (t ∷ slots) ≡ true) same (among-here t slots))
+        here (inr rest) = let known = later rest in (known.0, among-later t s slots known.1)
 
-    by_name : (b : Bool) → named name n.0 ≡ b → cond b (Some n.1) (lookup (named name) names) ≡ Some key → (lookup (named name) names ≡ Some key → (e : Entry) × (get table key ≡ Some e) × (e.name ≡ name)) → (e : Entry) × (get table key ≡ Some e) × (e.name ≡ name)
-    by_name true is at later = (first.entry, ap (get table) (sym (some_inner n.1 key at)) ∙ first.held, first.named ∙ sym ((bytes_eq-Decides name n.0.items).0 is))
-    by_name false is at later = later at
+stays-among : (s slot : ℕ) (slots : List ℕ) → s ≢ slot → among s slots ≡ true → among s (slots_left slot slots) ≡ true
+stays-among s slot [] other is = absurd (cc)
+stays-among s slot (t ∷ slots) other is = by (eqb t slot) refl (λ rest. stays-among s slot slots other rest)
+  where
+    by : (b : Bool) → eqb t slot ≡ b → (among s slots ≡ true → among s (slots_left slot slots) ≡ true)
+        → among s (cond b slots (t ∷ slots_left slot slots)) ≡ true
+    by true tells later = here (among-cases t s slots is)
+      where
+        here : (t ≡ s) ⊎ (among s slots ≡ true) → among s slots ≡ true
+        here (inl same) = absurd (other (sym same ∙ number_of t slot tells))
+        here (inr rest) = rest
+    by false tells later = here (among-cases t s slots is)
+      where
+        here : (t ≡ s) ⊎ (among s slots ≡ true) → among s (t ∷ slots_left slot slots) ≡ true
+        here (inl same) = subst (λ k. among k (t ∷ slots_left slot slots) ≡ true) same (among-here t (slots_left slot slots))
+        here (inr rest) = among-later t s (slots_left slot slots) (later rest)
 
--- a slot that is told is one that is found
-pub found_from_stock : (table : Slab Entry) (name : List ℕ) (names : List Name) (o : Option ℕ) → o ≡ slot_beside (is_named name) (adverts table names) (slots_of names) → lookup (named name) names ≡ o
-found_from_stock table name names o told = slot_beside-lookup table name names ∙ sym told
+last-among : (s slot : ℕ) (slots : List ℕ) → among s (slots ++ slot ∷ []) ≡ true → (among s slots ≡ true) ⊎ (s ≡ slot)
+last-among s slot [] is = here (among-cases slot s [] is)
+  where
+    here : (slot ≡ s) ⊎ (among s [] ≡ true) → (among s [] ≡ true) ⊎ (s ≡ slot)
+    here (inl same) = inr (sym same)
+    here (inr none) = inl none
+last-among s slot (t ∷ slots) is = here (among-cases t s (slots ++ slot ∷ []) is) (λ rest. last-among s slot slots rest)
+  where
+    here : (t ≡ s) ⊎ (among s (slots ++ slot ∷ []) ≡ true) → (among s (slots ++ slot ∷ []) ≡ true → (among s slots ≡ true) ⊎ (s ≡ slot))
+        → (among s (t ∷ slots) ≡ true) ⊎ (s ≡ slot)
+    here (inl same) later = inl (subst (λ k. among k (t ∷ slots) ≡ true) same (among-here t slots))
+    here (inr rest) later = again (later rest)
+      where
+        again : (among s slots ≡ true) ⊎ (s ≡ slot) → (among s (t ∷ slots) ≡ true) ⊎ (s ≡ slot)
+        again (inl before) = inl (among-later t s slots before)
+        again (inr last) = inr last
 
-pub has_from_stock : (table : Slab Entry) (name : List ℕ) (names : List Name) (o : Option ℕ) → o ≡ slot_beside (is_named name) (adverts table names) (slots_of names) → has name (adverts table names) ≡ is_some o
-has_from_stock table name names o told = has-lookup table name names ∙ ap is_some (found_from_stock table name names o told)
+among-push : (s slot : ℕ) (slots : List ℕ) → among s slots ≡ true → among s (slots ++ slot ∷ []) ≡ true
+among-push s slot [] is = absurd (cc)
+among-push s slot (t ∷ slots) is = here (among-cases t s slots is) (λ rest. among-push s slot slots rest)
+  where
+    here : (t ≡ s) ⊎ (among s slots ≡ true) → (among s slots ≡ true → among s (slots ++ slot ∷ []) ≡ true) → among s (t ∷ slots ++ slot ∷ []) ≡ true
+    here (inl same) later = subst (λ k. among k (t ∷ slots ++ slot ∷ []) ≡ true) same (among-here t (slots ++ slot ∷ []))
+    here (inr rest) later = among-later t s (slots ++ slot ∷ []) (later rest)
 
--- ---- fewer names
+among-last : (slot : ℕ) (slots : List ℕ) → among slot (slots ++ slot ∷ []) ≡ true
+among-last slot [] = among-here slot []
+among-last slot (t ∷ slots) = among-later t slot (slots ++ slot ∷ []) (among-last slot slots)
 
-by_test : (b : Bool) (n : Name) (names left : List Name) → length left ≤ length names → length (cond b names (n ∷ left)) ≤ length (n ∷ names)
-by_test true n names left fewer = omega arith
-by_test false n names left fewer = omega arith
+adverts-push : (table : Slab Entry) (slots : List ℕ) (slot : ℕ) → adverts table (slots ++ slot ∷ []) ≡ adverts table slots ++ advert_of (get table slot) ∷ []
+adverts-push table [] slot = refl
+adverts-push table (s ∷ slots) slot = ap (λ ads. advert_of (get table s) ∷ ads) (adverts-push table slots slot)
 
-pub length-gone : (test : Vec ℕ Global → Bool) (names : List Name) → length (shift_remove_entry test names) ≤ length names
-length-gone test [] = omega arith
-length-gone test (n ∷ names) = by_test (test n.0) n names (shift_remove_entry test names) (length-gone test names)
+-- ---- what stays true
+
+module _ (old new : Slab Entry) (slots : List ℕ) (names : List ℕ → Option ℕ) (slot : ℕ) (held : AreHeld old slots names) where
+  module _ (entry : Entry) (changes : Updates old new slot (Some entry)) (is_name : entry.name ≡ (advert_of (get old slot)).name) where
+    name_stays : (s : ℕ) → (advert_of (get new s)).name ≡ (advert_of (get old s)).name
+    name_stays s = by (eqb s slot) refl
+      where
+        by : (b : Bool) → eqb s slot ≡ b → (advert_of (get new s)).name ≡ (advert_of (get old s)).name
+        by true is =
+            let same = number_of s slot is in
+            ap (λ k. (advert_of (get new k)).name) same ∙ ap (λ o. (advert_of o).name) changes.changed ∙ is_name
+            ∙ ap (λ k. (advert_of (get old k)).name) (sym same)
+        by false is = ap (λ o. (advert_of o).name) (changes.others s (different s slot is))
+
+    pub replaced_held : AreHeld new slots names
+    replaced_held = record {
+      filled = λ s there. by s there (eqb s slot) refl;
+      led = λ s there. ap names (name_stays s) ∙ held.led s there;
+      leads = λ name s told. ((held.leads name s told).0, name_stays s ∙ (held.leads name s told).1);
+    }
+      where
+        by : (s : ℕ) → among s slots ≡ true → (b : Bool) → eqb s slot ≡ b → ContainsKey new s
+        by s there true is = ap is_some (ap (get new) (number_of s slot is) ∙ changes.changed)
+        by s there false is = ap is_some (changes.others s (different s slot is)) ∙ held.filled s there
+
+  module _ (later : List ℕ → Option ℕ) (name : List ℕ) where
+    pub gone_held : Updates old new slot None → are_apart slots ≡ true → names name ≡ Some slot
+        → ((other : List ℕ) → later other ≡ cond (bytes_eq name other) None (names other))
+        → AreHeld new (slots_left slot slots) later
+    gone_held changes apart told turns = record {
+      filled = λ s there. let known = left-among s slot slots apart there in ap is_some (changes.others s known.0) ∙ held.filled s known.1;
+      led = λ s there.
+          let known = left-among s slot slots apart there in
+          ap (λ o. later (advert_of o).name) (changes.others s known.0) ∙ turns (advert_of (get old s)).name ∙ led_there s known.0 known.1;
+      leads = λ n s leads. by n s (bytes_eq name n) refl (sym (turns n) ∙ leads);
+    }
+      where
+        led_there : (s : ℕ) → s ≢ slot → among s slots ≡ true
+            → cond (bytes_eq name (advert_of (get old s)).name) None (names (advert_of (get old s)).name) ≡ Some s
+        led_there s other there =
+            let test : bytes_eq name (advert_of (get old s)).name ≡ false = only old slots names held name slot told s there ∙ not_it (eqb s slot) refl in
+            ap (λ b. cond b None (names (advert_of (get old s)).name)) test ∙ held.led s there
+          where
+            not_it : (b : Bool) → eqb s slot ≡ b → b ≡ false
+            not_it true is = absurd (other (number_of s slot is))
+            not_it false is = refl
+
+        by : (n : List ℕ) (s : ℕ) (b : Bool) → bytes_eq name n ≡ b → cond b None (names n) ≡ Some s
+            → (among s (slots_left slot slots) ≡ true) × ((advert_of (get new s)).name ≡ n)
+        by n s true is leads = absurd (cc)
+        by n s false is leads =
+            let known = held.leads n s leads in
+            (stays-among s slot slots (other known.1) known.0, ap (λ o. (advert_of o).name) (changes.others s (other known.1)) ∙ known.1)
+          where
+            other : (advert_of (get old s)).name ≡ n → s ≢ slot
+            other named = λ same.
+                let equal : name ≡ n = sym (held.leads name slot told).1 ∙ ap (λ k. (advert_of (get old k)).name) (sym same) ∙ named in
+                let tested = (bytes_eq-Decides name n).1 equal in
+                cc
+
+    pub entered_held : (entry : Entry) → Updates old new slot (Some entry) → entry.name ≡ name → among slot slots ≡ false → names name ≡ None
+        → ((other : List ℕ) → later other ≡ cond (bytes_eq name other) (Some slot) (names other)) → AreHeld new (slots ++ slot ∷ []) later
+    entered_held entry changes is_name absent told turns = record {
+      filled = λ s there. filled_there s (last-among s slot slots there);
+      led = λ s there. led_there s (last-among s slot slots there);
+      leads = λ n s leads. by n s (bytes_eq name n) refl (sym (turns n) ∙ leads);
+    }
+      where
+        apart : (s : ℕ) → among s slots ≡ true → s ≢ slot
+        apart s there = λ same. let now = subst (λ k. among k slots ≡ true) same there in cc
+
+        filled_there : (s : ℕ) → (among s slots ≡ true) ⊎ (s ≡ slot) → ContainsKey new s
+        filled_there s (inl before) = ap is_some (changes.others s (apart s before)) ∙ held.filled s before
+        filled_there s (inr last) = ap is_some (ap (get new) last ∙ changes.changed)
+
+        led_there : (s : ℕ) → (among s slots ≡ true) ⊎ (s ≡ slot) → later (advert_of (get new s)).name ≡ Some s
+        led_there s (inl before) =
+            ap (λ o. later (advert_of o).name) (changes.others s (apart s before))
+            ∙ turns (advert_of (get old s)).name
+            ∙ tested (bytes_eq name (advert_of (get old s)).name) refl
+          where
+            tested : (b : Bool) → bytes_eq name (advert_of (get old s)).name ≡ b → cond b (Some slot) (names (advert_of (get old s)).name) ≡ Some s
+            tested true is =
+                let found = sym (held.led s before) ∙ ap names (sym ((bytes_eq-Decides name (advert_of (get old s)).name).0 is)) ∙ told in
+                absurd (cc)
+            tested false is = held.led s before
+        led_there s (inr last) =
+            ap (λ o. later (advert_of o).name) (ap (get new) last ∙ changes.changed)
+            ∙ ap later is_name
+            ∙ turns name
+            ∙ ap (λ b. cond b (Some slot) (names name)) ((bytes_eq-Decides name name).1 refl)
+            ∙ ap (λ k. Some k) (sym last)
+
+        by : (n : List ℕ) (s : ℕ) (b : Bool) → bytes_eq name n ≡ b → cond b (Some slot) (names n) ≡ Some s
+            → (among s (slots ++ slot ∷ []) ≡ true) × ((advert_of (get new s)).name ≡ n)
+        by n s true is leads =
+            let same = same_Some slot s leads in (
+              subst (λ k. among k (slots ++ slot ∷ []) ≡ true) same (among-last slot slots),
+              ap (λ k. (advert_of (get new k)).name) (sym same) ∙ ap (λ o. (advert_of o).name) changes.changed ∙ is_name ∙ (bytes_eq-Decides name n).0 is,
+            )
+        by n s false is leads =
+            let known = held.leads n s leads in
+            (among-push s slot slots known.0, ap (λ o. (advert_of o).name) (changes.others s (apart s known.0)) ∙ known.1)
+
+  pub entered_ads : (now : Option Entry) → Updates old new slot now → among slot slots ≡ false
+      → adverts new (slots ++ slot ∷ []) ≡ adverts old slots ++ advert_of now ∷ []
+  entered_ads now changes absent =
+      adverts-push new slots slot
+      ∙ ap (λ o. adverts new slots ++ advert_of o ∷ []) changes.changed
+      ∙ ap (λ ads. ads ++ advert_of now ∷ []) (others_stay old new slot now changes slots absent)
+
+-- a slot without an entry is none of those in order
+pub vacant_apart : (table : Slab Entry) (slots : List ℕ) (slot : ℕ) → ((s : ℕ) → among s slots ≡ true → ContainsKey table s) → get table slot ≡ None
+    → among slot slots ≡ false
+vacant_apart table slots slot filled vacant = by (among slot slots) refl
+  where
+    by : (b : Bool) → among slot slots ≡ b → b ≡ false
+    by false is = refl
+    by true is = let there = sym (ap is_some vacant) ∙ filled slot is in absurd (cc)
+
+push-left : (slot : ℕ) (slots : List ℕ) → among slot slots ≡ false → slots_left slot (slots ++ slot ∷ []) ≡ slots
+push-left slot [] absent = ap (λ b. cond b [] (slot ∷ [])) (same_number slot)
+push-left slot (s ∷ slots) absent =
+    let parts = neither (eqb s slot) (among slot slots) absent in
+    ap (λ b. cond b (slots ++ slot ∷ []) (s ∷ slots_left slot (slots ++ slot ∷ []))) parts.0 ∙ ap (λ l. s ∷ l) (push-left slot slots parts.1)
+
+-- a slot that came last leaves again
+pub undone : (slot : ℕ) (slots : List ℕ) → among slot slots ≡ false → slots_left slot (with_last slot slots) ≡ slots
+undone slot slots absent = ap (λ b. slots_left slot (cond b slots (slots ++ slot ∷ []))) absent ∙ push-left slot slots absent
+
+pub length-gone : (slot : ℕ) (slots : List ℕ) → length (slots_left slot slots) ≤ length slots
+length-gone slot [] = omega arith
+length-gone slot (s ∷ slots) = by (eqb s slot) (length-gone slot slots)
+  where
+    by : (b : Bool) → length (slots_left slot slots) ≤ length slots → length (cond b slots (s ∷ slots_left slot slots)) ≤ length (s ∷ slots)
+    by true fewer = omega arith
+    by false fewer = omega (arith, fewer)

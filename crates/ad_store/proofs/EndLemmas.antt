@@ -1,11 +1,12 @@
 -- The ends of lifetimes: none comes before a moment that is kept.
-use Rattle.std.proofs.Common.{◌≡◌, ℕ, ◌+◌, ◌<◌, ◌≤◌, Bool, true, false, not, cond, List, [], ◌∷◌, ◌++◌, All, filter, None, Some, refl, ap, ◌∙◌, lt-ltb, arith}
+use Rattle.std.proofs.Common.{◌≡◌, ℕ, ◌+◌, ◌<◌, ◌≤◌, Bool, true, false, not, cond, List, [], ◌∷◌, ◌++◌, All, filter, slice_get, suc, Option, None, Some, refl}
+use Rattle.std.proofs.Common.{ap, ◌∙◌, lt-ltb, arith}
 use Rattle.std.proofs.lemmas.List.Elements.{All-append, All-cons, All-head, All-nil, All-tail}
 use Rattle.slab.specs.Slab.{Slab, get}
+use Rattle.slot_order.specs.Cells.{listed}
 use Rattle.ad_store.specs.declared.entry.Entry.{Entry}
-use Rattle.ad_store.specs.Held.{adverts, advert_of, end_of, slots_of}
-use Rattle.ad_store.specs.Stock.{Advert, EndFrom, is_live, is_named, placed, slot_beside, without}
-use Rattle.ad_store.proofs.HeldLemmas.{Name}
+use Rattle.ad_store.specs.Held.{adverts, advert_of, end_of}
+use Rattle.ad_store.specs.Stock.{Advert, EndFrom, is_live, is_named, placed, slot_beside, slots_beside, without}
 
 abbrev ends : ℕ → Advert → Type 0
 ends moment advert = moment ≤ advert.born + advert.lifetime
@@ -36,11 +37,11 @@ module _ (moment : ℕ) where
   pub ends-sooner : (sooner : ℕ) (ads : List Advert) → sooner ≤ moment → EndFrom moment ads → EndFrom sooner ads
   ends-sooner sooner ads less all = λ k d within. omega (arith, less, all k d within)
 
-  pub ends-slots : (table : Slab Entry) (names : List Name) → All (λ slot. moment ≤ end_of (get table slot)) (slots_of names) → EndFrom moment (adverts table names)
+  pub ends-slots : (table : Slab Entry) (slots : List ℕ) → All (λ slot. moment ≤ end_of (get table slot)) slots → EndFrom moment (adverts table slots)
   ends-slots table [] all = All-nil (ends moment)
-  ends-slots table (n ∷ names) all =
-      All-cons (ends moment) (advert_of n.0.items (get table n.1)) (adverts table names) (All-head (λ slot. moment ≤ end_of (get table slot)) n.1 (slots_of names) all)
-      (ends-slots table names (All-tail (λ slot. moment ≤ end_of (get table slot)) n.1 (slots_of names) all))
+  ends-slots table (s ∷ slots) all =
+      All-cons (ends moment) (advert_of (get table s)) (adverts table slots) (All-head (λ slot. moment ≤ end_of (get table slot)) s slots all)
+      (ends-slots table slots (All-tail (λ slot. moment ≤ end_of (get table slot)) s slots all))
 
   -- ---- before the first end all are live
 
@@ -52,10 +53,26 @@ module _ (moment : ℕ) where
     none-expired [] slots all = refl
     none-expired (advert ∷ ads) [] all = refl
     none-expired (advert ∷ ads) (slot ∷ slots) all =
-        ap (λ b. cond (not b) (Some slot) (slot_beside (λ advert. not (is_live now advert)) ads slots)) (live advert (All-head (ends moment) advert ads all)) ∙ none-expired ads slots (All-tail (ends moment) advert ads all)
+        ap (λ b. cond (not b) (Some slot) (slot_beside (λ advert. not (is_live now advert)) ads slots)) (live advert (All-head (ends moment) advert ads all))
+        ∙ none-expired ads slots (All-tail (ends moment) advert ads all)
+
+    pub no-expired : (ads : List Advert) (slots : List ℕ) → EndFrom moment ads → slots_beside (λ advert. not (is_live now advert)) ads slots ≡ []
+    no-expired [] slots all = refl
+    no-expired (advert ∷ ads) [] all = refl
+    no-expired (advert ∷ ads) (slot ∷ slots) all =
+        ap (λ b. cond (not b) (slot ∷ slots_beside (λ advert. not (is_live now advert)) ads slots)
+        (slots_beside (λ advert. not (is_live now advert)) ads slots)) (live advert (All-head (ends moment) advert ads all))
+        ∙ no-expired ads slots (All-tail (ends moment) advert ads all)
 
     pub all-live : (ads : List Advert) → EndFrom moment ads → filter (is_live now) ads ≡ ads
     all-live [] all = refl
     all-live (advert ∷ ads) all =
         ap (λ b. cond b (advert ∷ filter (is_live now) ads) (filter (is_live now) ads)) (live advert (All-head (ends moment) advert ads all))
         ∙ ap (λ rest. advert ∷ rest) (all-live ads (All-tail (ends moment) advert ads all))
+
+-- ---- cells
+
+pub all-listed : (P : ℕ → Type 0) (cells : List (Option ℕ)) → ((cell slot : ℕ) → slice_get cells cell ≡ Some (Some slot) → P slot) → All P (listed cells)
+all-listed P [] all = All-nil P
+all-listed P (None ∷ cells) all = all-listed P cells (λ cell slot at. all (suc cell) slot at)
+all-listed P (Some s ∷ cells) all = All-cons P s (listed cells) (all 0 s refl) (all-listed P cells (λ cell slot at. all (suc cell) slot at))

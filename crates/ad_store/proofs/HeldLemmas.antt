@@ -1,19 +1,16 @@
--- How the ads in order change with the names and the table of slots.
-use Rattle.std.proofs.Common.{◌≡◌, ◌≢◌, ℕ, Bool, true, false, not, ◌&&◌, ◌||◌, cond, eqb, List, [], ◌∷◌, ◌++◌, Option, None, Some, Vec, is_some, bytes_eq, refl, ◌∙◌, ap, subst, arith}
-use Rattle.std.specs.declared.alloc.Global.{Global}
+-- Ads, their slots, and the names that lead to them.
+use Rattle.std.proofs.Common.{◌≡◌, ◌≢◌, ℕ, zero, suc, ◌⊎◌, inl, inr, Bool, true, false, not, ◌&&◌, ◌||◌, cond, eqb, List, [], ◌∷◌, ◌++◌, slice_get, Option}
+use Rattle.std.proofs.Common.{None, Some, is_some, Contains, refl, sym, ◌∙◌, ap, subst, arith}
 use Rattle.std.specs.List.{list_any}
-use Rattle.std.specs.Option.{option_map_or}
 use Rattle.std.proofs.lemmas.Bool.Decides.{nat_tests}
+use Rattle.std.proofs.lemmas.Option.{same_Some}
 use Rattle.std.proofs.lemmas.Slice.Eq.{bytes_eq-Decides}
-use Rattle.slab.specs.Slab.{Slab, Updates, get}
+use Rattle.slab.specs.Slab.{Slab, get}
+use Rattle.slab.proofs.SlabLemmas.{Contains-cons, Contains-cons_cases}
+use Rattle.slot_order.specs.Slots.{are_apart}
 use Rattle.ad_store.specs.declared.entry.Entry.{Entry}
-use Rattle.ad_store.specs.Held.{advert_of, adverts, are_held, holds, slots_of}
+use Rattle.ad_store.specs.Held.{AreHeld, advert_of, adverts}
 use Rattle.ad_store.specs.Stock.{Advert, has, is_named, placed, slot_beside, without}
-use Rattle.ad_store.proofs.Lookups.{lookup}
-
--- a name with its slot
-abbrev pub Name : Type 0
-Name = Vec ℕ Global × ℕ
 
 pub both : (a b : Bool) → (a && b) ≡ true → (a ≡ true) × (b ≡ true)
 both true b is = (refl, is)
@@ -23,84 +20,20 @@ pub neither : (a b : Bool) → (a || b) ≡ false → (a ≡ false) × (b ≡ fa
 neither false b is = (refl, is)
 neither true b is = absurd (cc)
 
-pub negated : (a : Bool) → not a ≡ true → a ≡ false
+negated : (a : Bool) → not a ≡ true → a ≡ false
 negated false is = refl
 negated true is = absurd (cc)
 
 pub different : (a b : ℕ) → eqb a b ≡ false → a ≢ b
 different a b is = λ same. grind (arith, nat_tests)
 
--- what is known of the first name
-pub record Parts (table : Slab Entry) (n : Name) (names : List Name) : Type 0 where
-  pub entry : Entry
-  pub held : get table n.1 ≡ Some entry
-  pub named : entry.name ≡ n.0.items
-  pub apart : list_any (λ slot. eqb slot n.1) (slots_of names) ≡ false
-  pub rest : are_held table names ≡ true
+pub number_of : (a b : ℕ) → eqb a b ≡ true → a ≡ b
+number_of a b is = grind (arith, nat_tests)
 
-entry_from : (o : Option Entry) (k : List ℕ) → option_map_or (λ e. bytes_eq e.name k) o false ≡ true → (e : Entry) × (o ≡ Some e) × (e.name ≡ k)
-entry_from None k is = absurd (cc)
-entry_from (Some e) k is = (e, refl, (bytes_eq-Decides e.name k).0 is)
+pub same_number : (k : ℕ) → eqb k k ≡ true
+same_number k = grind (arith, nat_tests)
 
-pub parts_of : (table : Slab Entry) (n : Name) (names : List Name) → are_held table (n ∷ names) ≡ true → Parts table n names
-parts_of table n names is =
-    let whole = both _ _ is in
-    let first = both _ _ whole.0 in
-    let found = entry_from (get table n.1) n.0.items first.0 in
-    record { entry = found.0; held = found.1; named = found.2; apart = negated _ first.1; rest = whole.1 }
-
--- ---- a slot that isn't beside a name
-
-pub others_held : (old new : Slab Entry) (key : ℕ) (slot : Option Entry) (names : List Name) → Updates old new key slot → list_any (λ s. eqb s key) (slots_of names) ≡ false → are_held new names ≡ are_held old names
-others_held old new key slot [] changes out = refl
-others_held old new key slot (n ∷ names) changes out =
-    let parts = neither _ _ out in
-    let same = changes.others n.1 (different n.1 key parts.0) in
-    ap (λ o. (option_map_or (λ e. bytes_eq e.name n.0.items) o false && not (list_any (λ s. eqb s n.1) (slots_of names))) && are_held new names) same
-    ∙ ap (λ b. (holds old n && not (list_any (λ s. eqb s n.1) (slots_of names))) && b) (others_held old new key slot names changes parts.1)
-
-pub others_stay : (old new : Slab Entry) (key : ℕ) (slot : Option Entry) (names : List Name) → Updates old new key slot → list_any (λ s. eqb s key) (slots_of names) ≡ false → adverts new names ≡ adverts old names
-others_stay old new key slot [] changes out = refl
-others_stay old new key slot (n ∷ names) changes out =
-    let parts = neither _ _ out in
-    ap (λ o. advert_of n.0.items o ∷ adverts new names) (changes.others n.1 (different n.1 key parts.0))
-    ∙ ap (λ ads. advert_of n.0.items (get old n.1) ∷ ads) (others_stay old new key slot names changes parts.1)
-
--- a slot without an entry is beside no name
-pub vacant_apart : (table : Slab Entry) (key : ℕ) (names : List Name) → are_held table names ≡ true → get table key ≡ None → list_any (λ s. eqb s key) (slots_of names) ≡ false
-vacant_apart table key [] held vacant = refl
-vacant_apart table key (n ∷ names) held vacant = by_slot (eqb n.1 key) refl (vacant_apart table key names first.rest vacant)
-  where
-    first : Parts table n names
-    first = parts_of table n names held
-
-    by_slot : (b : Bool) → eqb n.1 key ≡ b → list_any (λ s. eqb s key) (slots_of names) ≡ false → (b || list_any (λ s. eqb s key) (slots_of names)) ≡ false
-    by_slot false is rest = rest
-    by_slot true is rest = let same : n.1 ≡ key = grind (arith, nat_tests) in let e = first.held in let e2 = subst (λ k. get table k ≡ Some first.entry) same e in absurd (cc)
-
--- ---- look-ups
-
-pub slot_beside-lookup : (table : Slab Entry) (name : List ℕ) (names : List Name) → lookup (λ k. bytes_eq name k.items) names ≡ slot_beside (is_named name) (adverts table names) (slots_of names)
-slot_beside-lookup table name [] = refl
-slot_beside-lookup table name (n ∷ names) = ap (cond (bytes_eq name n.0.items) (Some n.1)) (slot_beside-lookup table name names)
-
-has_cases : (b : Bool) (slot : ℕ) (rest : Bool) (o : Option ℕ) → rest ≡ is_some o → (b || rest) ≡ is_some (cond b (Some slot) o)
-has_cases true slot rest o is = refl
-has_cases false slot rest o is = is
-
-pub has-lookup : (table : Slab Entry) (name : List ℕ) (names : List Name) → has name (adverts table names) ≡ is_some (lookup (λ k. bytes_eq name k.items) names)
-has-lookup table name [] = refl
-has-lookup table name (n ∷ names) = has_cases (bytes_eq name n.0.items) n.1 _ _ (has-lookup table name names)
-
--- ---- a new ad
-
-pub adverts-push : (table : Slab Entry) (names : List Name) (n : Name) → adverts table (names ++ n ∷ []) ≡ adverts table names ++ advert_of n.0.items (get table n.1) ∷ []
-adverts-push table [] n = refl
-adverts-push table (m ∷ names) n = ap (λ ads. advert_of m.0.items (get table m.1) ∷ ads) (adverts-push table names n)
-
-pub slots_of-push : (names : List Name) (n : Name) → slots_of (names ++ n ∷ []) ≡ slots_of names ++ n.1 ∷ []
-slots_of-push [] n = refl
-slots_of-push (m ∷ names) n = ap (λ slots. m.1 ∷ slots) (slots_of-push names n)
+-- ---- ads without slots
 
 pub placed-new : (advert : Advert) (ads : List Advert) → has advert.name ads ≡ false → placed advert ads ≡ ads ++ advert ∷ []
 placed-new advert [] new = refl
@@ -114,23 +47,132 @@ without-absent name (other ∷ ads) absent =
     let parts = neither _ _ absent in
     ap (λ b. cond b ads (other ∷ without name ads)) parts.0 ∙ ap (λ l. other ∷ l) (without-absent name ads parts.1)
 
-any_push : (key : ℕ) (slots : List ℕ) (slot : ℕ) → list_any (λ s. eqb s key) slots ≡ false → eqb slot key ≡ false → list_any (λ s. eqb s key) (slots ++ slot ∷ []) ≡ false
-any_push key [] slot none apart = ap (λ b. b || false) apart
-any_push key (s ∷ slots) slot none apart =
-    let parts = neither _ _ none in
-    ap (λ b. b || list_any (λ t. eqb t key) (slots ++ slot ∷ [])) parts.0 ∙ any_push key slots slot parts.1 apart
+-- ---- slots that are there
 
-eqb_flip : (a b : ℕ) → eqb a b ≡ false → eqb b a ≡ false
-eqb_flip a b is = grind (arith, nat_tests)
+-- a slot is among others
+abbrev pub among : ℕ → List ℕ → Bool
+among slot slots = list_any (λ s. eqb s slot) slots
 
-pub are_held-push : (table : Slab Entry) (names : List Name) (n : Name) → are_held table names ≡ true → holds table n ≡ true → list_any (λ s. eqb s n.1) (slots_of names) ≡ false → are_held table (names ++ n ∷ []) ≡ true
-are_held-push table [] n held new apart = ap (λ b. (b && true) && true) new
-are_held-push table (m ∷ names) n held new apart =
-    let whole = both _ _ held in
-    let first = both _ _ whole.0 in
-    let out = neither _ _ apart in
-    let still : list_any (λ s. eqb s m.1) (slots_of (names ++ n ∷ [])) ≡ false =
-    ap (list_any (λ s. eqb s m.1)) (slots_of-push names n) ∙ any_push m.1 (slots_of names) n.1 (negated _ first.1) (eqb_flip m.1 n.1 out.0) in
-    ap (λ b. (b && not (list_any (λ s. eqb s m.1) (slots_of (names ++ n ∷ [])))) && are_held table (names ++ n ∷ [])) first.0
-    ∙ ap (λ b. not b && are_held table (names ++ n ∷ [])) still
-    ∙ are_held-push table names n whole.1 new out.1
+pub among-here : (slot : ℕ) (slots : List ℕ) → among slot (slot ∷ slots) ≡ true
+among-here slot slots = ap (λ b. b || among slot slots) (same_number slot)
+
+pub among-later : (s slot : ℕ) (slots : List ℕ) → among slot slots ≡ true → among slot (s ∷ slots) ≡ true
+among-later s slot slots later = by (eqb s slot) (among slot slots) later
+  where
+    by : (a b : Bool) → b ≡ true → (a || b) ≡ true
+    by true b is = refl
+    by false b is = is
+
+pub among-cases : (s slot : ℕ) (slots : List ℕ) → among slot (s ∷ slots) ≡ true → (s ≡ slot) ⊎ (among slot slots ≡ true)
+among-cases s slot slots is = by (eqb s slot) refl is
+  where
+    by : (b : Bool) → eqb s slot ≡ b → (b || among slot slots) ≡ true → (s ≡ slot) ⊎ (among slot slots ≡ true)
+    by true tells is = inl (number_of s slot tells)
+    by false tells is = inr is
+
+pub contained-among : (slots : List ℕ) (slot : ℕ) → Contains slots slot → among slot slots ≡ true
+contained-among [] slot contained = absurd (omega (arith, contained.1))
+contained-among (s ∷ slots) slot contained = by (Contains-cons_cases s slot slots contained) (λ rest. contained-among slots slot rest)
+  where
+    by : (s ≡ slot) ⊎ Contains slots slot → (Contains slots slot → among slot slots ≡ true) → among slot (s ∷ slots) ≡ true
+    by (inl here) later = subst (λ k. among k (s ∷ slots) ≡ true) here (among-here s slots)
+    by (inr rest) later = among-later s slot slots (later rest)
+
+pub among-contained : (slots : List ℕ) (slot : ℕ) → among slot slots ≡ true → Contains slots slot
+among-contained [] slot is = absurd (cc)
+among-contained (s ∷ slots) slot is = by (among-cases s slot slots is) (λ rest. among-contained slots slot rest)
+  where
+    by : (s ≡ slot) ⊎ (among slot slots ≡ true) → (among slot slots ≡ true → Contains slots slot) → Contains (s ∷ slots) slot
+    by (inl here) later = (0, omega arith, here)
+    by (inr rest) later = Contains-cons s slot slots (later rest)
+
+pub among-at : (slots : List ℕ) (i slot : ℕ) → slice_get slots i ≡ Some slot → among slot slots ≡ true
+among-at [] i slot at = absurd (cc)
+among-at (s ∷ slots) zero slot at = subst (λ k. among k (s ∷ slots) ≡ true) (same_Some s slot at) (among-here s slots)
+among-at (s ∷ slots) (suc i) slot at = among-later s slot slots (among-at slots i slot at)
+
+-- the first of slots that are apart isn't among the others
+pub apart-first : (s : ℕ) (slots : List ℕ) → are_apart (s ∷ slots) ≡ true → among s slots ≡ false
+apart-first s slots apart = negated (among s slots) (both (not (among s slots)) (are_apart slots) apart).0
+
+pub apart-rest : (s : ℕ) (slots : List ℕ) → are_apart (s ∷ slots) ≡ true → are_apart slots ≡ true
+apart-rest s slots apart = (both (not (among s slots)) (are_apart slots) apart).1
+
+-- ---- the slot beside an ad
+
+module _ (table : Slab Entry) (test : Advert → Bool) where
+  pub beside-some : (slots : List ℕ) (slot : ℕ) → slot_beside test (adverts table slots) slots ≡ Some slot
+      → (among slot slots ≡ true) × (test (advert_of (get table slot)) ≡ true)
+  beside-some [] slot found = absurd (cc)
+  beside-some (s ∷ slots) slot found = by (test (advert_of (get table s))) refl found (λ rest. beside-some slots slot rest)
+    where
+      by : (b : Bool) → test (advert_of (get table s)) ≡ b → cond b (Some s) (slot_beside test (adverts table slots) slots) ≡ Some slot
+          → (slot_beside test (adverts table slots) slots ≡ Some slot → (among slot slots ≡ true) × (test (advert_of (get table slot)) ≡ true))
+          → (among slot (s ∷ slots) ≡ true) × (test (advert_of (get table slot)) ≡ true)
+      by true is at later =
+          let same = same_Some s slot at in
+          (subst (λ k. among k (s ∷ slots) ≡ true) same (among-here s slots), subst (λ k. test (advert_of (get table k)) ≡ true) same is)
+      by false is at later = let rest = later at in (among-later s slot slots rest.0, rest.1)
+
+  pub beside-none : (slots : List ℕ) → slot_beside test (adverts table slots) slots ≡ None → (slot : ℕ) → among slot slots ≡ true
+      → test (advert_of (get table slot)) ≡ false
+  beside-none [] none slot is = absurd (cc)
+  beside-none (s ∷ slots) none slot is = by (test (advert_of (get table s))) refl none (λ rest. beside-none slots rest slot)
+    where
+      by : (b : Bool) → test (advert_of (get table s)) ≡ b → cond b (Some s) (slot_beside test (adverts table slots) slots) ≡ None
+          → (slot_beside test (adverts table slots) slots ≡ None → among slot slots ≡ true → test (advert_of (get table slot)) ≡ false)
+          → test (advert_of (get table slot)) ≡ false
+      by true tells none later = absurd (cc)
+      by false tells none later = here (among-cases s slot slots is)
+        where
+          here : (s ≡ slot) ⊎ (among slot slots ≡ true) → test (advert_of (get table slot)) ≡ false
+          here (inl same) = subst (λ k. test (advert_of (get table k)) ≡ false) same tells
+          here (inr rest) = later none rest
+
+  pub any-beside : (slots : List ℕ) → list_any test (adverts table slots) ≡ is_some (slot_beside test (adverts table slots) slots)
+  any-beside [] = refl
+  any-beside (s ∷ slots) = by (test (advert_of (get table s))) (any-beside slots)
+    where
+      by : (b : Bool) → list_any test (adverts table slots) ≡ is_some (slot_beside test (adverts table slots) slots)
+          → (b || list_any test (adverts table slots)) ≡ is_some (cond b (Some s) (slot_beside test (adverts table slots) slots))
+      by true rest = refl
+      by false rest = rest
+
+-- ---- names
+
+module _ (table : Slab Entry) (slots : List ℕ) (names : List ℕ → Option ℕ) (held : AreHeld table slots names) where
+  -- a name leads to the slot beside its ad
+  pub named-beside : (name : List ℕ) → slot_beside (is_named name) (adverts table slots) slots ≡ names name
+  named-beside name = by (slot_beside (is_named name) (adverts table slots) slots) refl
+    where
+      by : (o : Option ℕ) → slot_beside (is_named name) (adverts table slots) slots ≡ o → o ≡ names name
+      by (Some slot) is =
+          let found = beside-some table (is_named name) slots slot is in
+          sym (ap names ((bytes_eq-Decides name (advert_of (get table slot)).name).0 found.1) ∙ held.led slot found.0)
+      by None is = leading (names name) refl
+        where
+          leading : (o : Option ℕ) → names name ≡ o → None ≡ o
+          leading None told = refl
+          leading (Some slot) told =
+              let there = held.leads name slot told in
+              let passes : is_named name (advert_of (get table slot)) ≡ true = (bytes_eq-Decides name (advert_of (get table slot)).name).1 (sym there.1) in
+              let fails = beside-none table (is_named name) slots is slot there.0 in
+              absurd (cc)
+
+  pub has-named : (name : List ℕ) → has name (adverts table slots) ≡ is_some (names name)
+  has-named name = any-beside table (is_named name) slots ∙ ap is_some (named-beside name)
+
+  -- the ad in the slot that a name leads to is the only one of the name
+  pub only : (name : List ℕ) (slot : ℕ) → names name ≡ Some slot → (s : ℕ) → among s slots ≡ true → is_named name (advert_of (get table s)) ≡ eqb s slot
+  only name slot leads s there = by (is_named name (advert_of (get table s))) refl (eqb s slot) refl
+    where
+      by : (a : Bool) → is_named name (advert_of (get table s)) ≡ a → (b : Bool) → eqb s slot ≡ b → a ≡ b
+      by true named true is = refl
+      by false named false is = refl
+      by true named false is =
+          let same : Some slot ≡ Some s = sym leads ∙ ap names ((bytes_eq-Decides name (advert_of (get table s)).name).0 named) ∙ held.led s there in
+          absurd (different s slot is (sym (same_Some slot s same)))
+      by false named true is =
+          let name_is = ap (λ k. (advert_of (get table k)).name) (number_of s slot is) ∙ (held.leads name slot leads).1 in
+          let passes : is_named name (advert_of (get table s)) ≡ true = (bytes_eq-Decides name (advert_of (get table s)).name).1 (sym name_is) in
+          absurd (cc)

@@ -1,7 +1,6 @@
 pub mod HeldLemmas
-pub mod Lookups
 pub mod ChangeLemmas
-pub mod EnterLemmas
+pub mod RoomLemmas
 pub mod ReplaceLemmas
 pub mod SlotLemmas
 pub mod EndLemmas

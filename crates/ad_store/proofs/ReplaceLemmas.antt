@@ -1,60 +1,91 @@
 -- An ad under a name that is held.
-use Rattle.std.proofs.Common.{◌≡◌, ℕ, ◌+◌, ◌-◌, ◌<◌, ◌≤◌, true, false, not, List, None, Some, is_some, IfSome, sym, ◌∙◌, ap, arith}
+use Rattle.std.proofs.Common.{◌≡◌, ℕ, ◌+◌, ◌-◌, ◌<◌, ◌≤◌, true, false, not, List, Option, None, Some, is_some, IfSome, bytes_eq, cond, eqb, refl, sym, ◌∙◌, ap}
+use Rattle.std.proofs.Common.{arith}
 use Rattle.std.specs.Option.{option_map_or}
 use Rattle.slab.specs.Slab.{ContainsKey, Slab, Updates, get}
+use Rattle.slot_order.specs.Slots.{are_apart, without as slots_left}
 use Rattle.ad_store.specs.declared.answers.PutFault.{PutFault}
 use Rattle.ad_store.specs.declared.entry.Content.{Content}
 use Rattle.ad_store.specs.declared.entry.Entry.{Entry}
-use Rattle.ad_store.specs.Held.{adverts, are_held, named_content, slots_of}
-use Rattle.ad_store.specs.Stock.{has, is_named, lack, placed, slot_beside, text_held, without}
-use Rattle.ad_store.proofs.HeldLemmas.{Name, slot_beside-lookup}
-use Rattle.ad_store.proofs.ChangeLemmas.{found_entry, found_from_stock, has_from_stock, named, replaced_ads, replaced_held, text_held-found, text_held-placed}
-use Rattle.ad_store.proofs.EnterLemmas.{lack-none, lack-text, place_held}
-use Rattle.ad_store.proofs.Lookups.{lookup}
+use Rattle.ad_store.specs.Held.{AreHeld, advert_of, adverts, named_content}
+use Rattle.ad_store.specs.Stock.{has, is_named, lack, placed, slot_beside, slots_without, text_held, without}
+use Rattle.ad_store.proofs.HeldLemmas.{among, has-named, named-beside, only}
+use Rattle.ad_store.proofs.ChangeLemmas.{gone_ads, gone_held, gone_slots, replaced_ads, replaced_held, text_held-found, text_held-placed}
+use Rattle.ad_store.proofs.RoomLemmas.{lack-none, lack-text, place_held}
 
-module _ (table : Slab Entry) (names : List Name) (name : List ℕ) (slot : ℕ) (text size had : ℕ)
-    (held : are_held table names ≡ true) (counted : text ≡ text_held (adverts table names))
-    (told : Some slot ≡ slot_beside (is_named name) (adverts table names) (slots_of names))
-    (is_had : had ≡ option_map_or (λ e. e.content.size) (get table slot) 0) where
-  found : lookup (named name) names ≡ Some slot
-  found = found_from_stock table name names (Some slot) told
+entry_from : (o : Option Entry) → is_some o ≡ true → (e : Entry) × (o ≡ Some e)
+entry_from None is = absurd (cc)
+entry_from (Some e) is = (e, refl)
 
-  entry : (e : Entry) × (get table slot ≡ Some e) × (e.name ≡ name)
-  entry = found_entry table name slot names found held
+module _ (table : Slab Entry) (slots : List ℕ) (names : List ℕ → Option ℕ) (name : List ℕ) (slot text : ℕ)
+    (held : AreHeld table slots names) (apart : are_apart slots ≡ true) (counted : text ≡ text_held (adverts table slots))
+    (told : Some slot ≡ slot_beside (is_named name) (adverts table slots) slots) where
+  pub leads : names name ≡ Some slot
+  leads = sym (told ∙ named-beside table slots names held name)
+
+  pub there : among slot slots ≡ true
+  there = (held.leads name slot leads).0
+
+  alone : (s : ℕ) → among s slots ≡ true → is_named name (advert_of (get table s)) ≡ eqb s slot
+  alone = only table slots names held name slot leads
 
   pub is_there : ContainsKey table slot
-  is_there = ap is_some entry.1
+  is_there = held.filled slot there
+
+  pub is_held : has name (adverts table slots) ≡ true
+  is_held = has-named table slots names held name ∙ ap is_some leads
+
+  pub no_addition : not (has name (adverts table slots)) ≡ false
+  no_addition = ap not is_held
 
   -- the texts without that of the ad that is there
-  pub others_text : text ≡ text_held (without name (adverts table names)) + had
-  others_text =
-      let size_there : had ≡ entry.0.content.size = is_had ∙ ap (λ o. option_map_or (λ e. e.content.size) o 0) entry.1 in
-      omega (arith, text_held-found table name slot entry.0 names entry.1 found)
+  pub others_text : text ≡ text_held (without name (adverts table slots)) + (advert_of (get table slot)).size
+  others_text = omega (arith, counted, text_held-found table name slot slots alone there)
 
-  name_held : has name (adverts table names) ≡ true
-  name_held = has_from_stock table name names (Some slot) told
+  -- ---- another takes its place
 
-  pub no_addition : not (has name (adverts table names)) ≡ false
-  no_addition = ap not name_held
+  module _ (size had : ℕ) (is_had : had ≡ option_map_or (λ e. e.content.size) (get table slot) 0) where
+    pub held-text : 33554432 < (text - had) + size → lack name size (adverts table slots) ≡ Some PutFault.FullText
+    held-text heavy = lack-text name size (adverts table slots) (place_held name (adverts table slots) is_held) (omega (arith, others_text, is_had, heavy))
 
-  pub held-text : 33554432 < (text - had) + size → lack name size (adverts table names) ≡ Some PutFault.FullText
-  held-text heavy = lack-text name size (adverts table names) (place_held name (adverts table names) name_held) (omega (arith, others_text))
+    pub held-none : (text - had) + size ≤ 33554432 → lack name size (adverts table slots) ≡ None
+    held-none light = lack-none name size (adverts table slots) (place_held name (adverts table slots) is_held) (omega (arith, others_text, is_had, light))
 
-  pub held-none : (text - had) + size ≤ 33554432 → lack name size (adverts table names) ≡ None
-  held-none light = lack-none name size (adverts table names) (place_held name (adverts table names) name_held) (omega (arith, others_text))
+  module _ (new : Slab Entry) (content : Content) (renewed : IfSome (get table slot)
+      (λ e. Updates table new slot (Some (record { name = e.name; content = content })))) where
+    entry : (e : Entry) × (get table slot ≡ Some e)
+    entry = entry_from (get table slot) is_there
 
-  module _ (new : Slab Entry) (content : Content) (renewed : IfSome (get table slot) (λ e. Updates table new slot (Some (record { name = e.name; content = content })))) where
+    is_name : entry.0.name ≡ name
+    is_name = ap (λ o. (advert_of o).name) (sym entry.1) ∙ (held.leads name slot leads).1
+
     changes : Updates table new slot (Some (record { name = entry.0.name; content = content }))
     changes = rw entry.1 at renewed
 
-    pub renewed_held : are_held new names ≡ true
-    renewed_held = replaced_held table new slot _ name changes entry.2 names found held
+    pub renewed_held : AreHeld new slots names
+    renewed_held =
+        replaced_held table new slots names slot held (record { name = entry.0.name; content = content }) changes (ap (λ o. (advert_of o).name) (sym entry.1))
 
-    pub renewed_ads : adverts new names ≡ placed (named_content name content) (adverts table names)
-    renewed_ads = replaced_ads table new slot _ name changes entry.2 names found held
+    pub renewed_ads : adverts new slots ≡ placed (named_content name content) (adverts table slots)
+    renewed_ads =
+        replaced_ads table new slot (Some (record { name = entry.0.name; content = content })) changes name is_name slots alone apart there
+        ∙ ap (λ n. placed (named_content n content) (adverts table slots)) is_name
 
-    pub renewed_text : (text - had) + content.size ≡ text_held (adverts new names)
-    renewed_text = omega (arith, others_text, ap text_held renewed_ads, text_held-placed (named_content name content) (adverts table names))
+    pub renewed_text : (had : ℕ) → had ≡ option_map_or (λ e. e.content.size) (get table slot) 0 → (text - had) + content.size ≡ text_held (adverts new slots)
+    renewed_text had is_had = omega (arith, others_text, is_had, ap text_held renewed_ads, text_held-placed (named_content name content) (adverts table slots))
 
-    pub renewed_slot : slot_beside (is_named name) (adverts new names) (slots_of names) ≡ Some slot
-    renewed_slot = sym (slot_beside-lookup new name names) ∙ found
+    pub renewed_slot : slot_beside (is_named name) (adverts new slots) slots ≡ Some slot
+    renewed_slot = named-beside new slots names renewed_held name ∙ leads
+
+  -- ---- it leaves
+
+  module _ (new : Slab Entry) (changes : Updates table new slot None) where
+    pub left_held : (later : List ℕ → Option ℕ) → ((other : List ℕ) → later other ≡ cond (bytes_eq name other) None (names other))
+        → AreHeld new (slots_left slot slots) later
+    left_held later turns = gone_held table new slots names slot held later name changes apart leads turns
+
+    pub left_ads : adverts new (slots_left slot slots) ≡ without name (adverts table slots)
+    left_ads = gone_ads table new slot None changes name slots alone apart
+
+  pub left_slots : slots_left slot slots ≡ slots_without name (adverts table slots) slots
+  left_slots = gone_slots table name slot slots alone

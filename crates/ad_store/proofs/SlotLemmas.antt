@@ -1,158 +1,113 @@
--- Slots, their places and what lies in them.
-use Rattle.std.proofs.Common.{◌≡◌, ◌≢◌, ℕ, zero, suc, ◌⊎◌, inl, inr, Bool, true, false, not, cond, eqb, List, [], ◌∷◌, filter, slice_get, Option, None, Some, Vec, is_some, unwrap_or, IfNone, IfSome, Contains, bytes_eq, refl, sym, ◌∙◌, ap, arith}
-use Rattle.std.specs.declared.alloc.Global.{Global}
-use Rattle.std.specs.List.{AllByRecursion, find, list_any, IsDistinct}
-use Rattle.std.specs.Map.{keys_of}
-use Rattle.std.proofs.lemmas.Bool.Decides.{nat_tests}
-use Rattle.std.proofs.lemmas.Slice.Eq.{bytes_eq-Decides}
+-- Places in the order, and the ads there.
+use Rattle.std.proofs.Common.{◌≡◌, ℕ, zero, suc, Bool, true, false, not, cond, List, [], ◌∷◌, filter, get_or, All, slice_get, Option, None, Some, IfNone, IfOk}
+use Rattle.std.proofs.Common.{IfSome, Result, Ok, Err, Contains, refl, sym, ◌∙◌, ap, subst, arith}
+use Rattle.std.specs.List.{find}
+use Rattle.std.specs.Prelude.{option_map}
+use Rattle.std.proofs.lemmas.Option.{none-some, same_Some, slice_get-map}
+use Rattle.std.proofs.lemmas.List.Elements.{All-cons, All-nil}
 use Rattle.slab.specs.Slab.{Slab, get}
-use Rattle.slab.proofs.SlabLemmas.{Contains-cons, Contains-cons_cases}
+use Rattle.slab.proofs.SlabLemmas.{Contains-cons}
+use Rattle.slot_order.specs.Slots.{are_apart}
 use Rattle.ad_store.specs.declared.entry.Entry.{Entry}
-use Rattle.ad_store.specs.Held.{advert_of, adverts, are_held, named_content, slots_of}
-use Rattle.ad_store.specs.Stock.{Advert, is_live, slot_beside}
-use Rattle.ad_store.proofs.HeldLemmas.{Name, Parts, neither, parts_of}
-use Rattle.ad_store.proofs.ChangeLemmas.{named}
-use Rattle.ad_store.proofs.Lookups.{lookup}
-
-some_inner : (a b : ℕ) → Some a ≡ Some b → a ≡ b
-some_inner a b is = cc
-
-entry_inner : (a b : Entry) → Some a ≡ Some b → a ≡ b
-entry_inner a b is = cc
+use Rattle.ad_store.specs.Held.{AreHeld, advert_of, adverts, named_content}
+use Rattle.ad_store.specs.Stock.{Advert, is_live, slot_beside, slots_beside}
+use Rattle.ad_store.proofs.HeldLemmas.{among, among-at, among-contained, apart-first, apart-rest, beside-some}
 
 -- ---- what lies in a slot
 
-pub entry_there : (table : Slab Entry) (slot : ℕ) (names : List Name) → are_held table names ≡ true → Contains (slots_of names) slot → (e : Entry) × (get table slot ≡ Some e)
-entry_there table slot [] held among = absurd (omega (arith, among.1))
-entry_there table slot (n ∷ names) held among = by_place (Contains-cons_cases n.1 slot (slots_of names) among) (λ rest. entry_there table slot names first.rest rest)
+pub advert_there : (table : Slab Entry) (slot : ℕ) (e : Entry) (slots : List ℕ) (i : ℕ) → get table slot ≡ Some e → slice_get slots i ≡ Some slot
+    → slice_get (adverts table slots) i ≡ Some (named_content e.name e.content)
+advert_there table slot e slots i there at =
+    slice_get-map (λ s. advert_of (get table s)) slots i ∙ ap (option_map (λ s. advert_of (get table s))) at ∙ ap (λ o. Some (advert_of o)) there
+
+-- ---- slots and names apart
+
+pub one_slot : (slots : List ℕ) → are_apart slots ≡ true → (i j slot : ℕ) → slice_get slots i ≡ Some slot → slice_get slots j ≡ Some slot → i ≡ j
+one_slot [] apart i j slot at_i at_j = absurd (none-some slot at_i)
+one_slot (s ∷ slots) apart zero zero slot at_i at_j = refl
+one_slot (s ∷ slots) apart zero (suc j) slot at_i at_j =
+    let there = subst (λ k. among k slots ≡ true) (sym (same_Some s slot at_i)) (among-at slots j slot at_j) in
+    let none = apart-first s slots apart in
+    absurd (cc)
+one_slot (s ∷ slots) apart (suc i) zero slot at_i at_j =
+    let there = subst (λ k. among k slots ≡ true) (sym (same_Some s slot at_j)) (among-at slots i slot at_i) in
+    let none = apart-first s slots apart in
+    absurd (cc)
+one_slot (s ∷ slots) apart (suc i) (suc j) slot at_i at_j = ap suc (one_slot slots (apart-rest s slots apart) i j slot at_i at_j)
+
+slot_of_ad : (table : Slab Entry) (slots : List ℕ) (i : ℕ) (a : Advert) → slice_get (adverts table slots) i ≡ Some a
+    → (slot : ℕ) × (slice_get slots i ≡ Some slot) × (advert_of (get table slot) ≡ a)
+slot_of_ad table slots i a at = by (slice_get slots i) refl
   where
-    first : Parts table n names
-    first = parts_of table n names held
+    by : (o : Option ℕ) → slice_get slots i ≡ o → (slot : ℕ) × (slice_get slots i ≡ Some slot) × (advert_of (get table slot) ≡ a)
+    by None is =
+        let none : slice_get (adverts table slots) i ≡ None =
+        slice_get-map (λ s. advert_of (get table s)) slots i ∙ ap (option_map (λ s. advert_of (get table s))) is in
+        absurd (none-some a (sym none ∙ at))
+    by (Some slot) is =
+        let some : slice_get (adverts table slots) i ≡ Some (advert_of (get table slot)) =
+        slice_get-map (λ s. advert_of (get table s)) slots i ∙ ap (option_map (λ s. advert_of (get table s))) is in
+        (slot, is, same_Some (advert_of (get table slot)) a (sym some ∙ at))
 
-    by_place : (n.1 ≡ slot) ⊎ Contains (slots_of names) slot → (Contains (slots_of names) slot → (e : Entry) × (get table slot ≡ Some e)) → (e : Entry) × (get table slot ≡ Some e)
-    by_place (inl here) later = (first.entry, ap (get table) (sym here) ∙ first.held)
-    by_place (inr rest) later = later rest
-
-pub advert_there : (table : Slab Entry) (slot : ℕ) (e : Entry) (names : List Name) (i : ℕ) → are_held table names ≡ true → get table slot ≡ Some e → slice_get (slots_of names) i ≡ Some slot → slice_get (adverts table names) i ≡ Some (named_content e.name e.content)
-advert_there table slot e [] i held there at = absurd (cc)
-advert_there table slot e (n ∷ names) zero held there at =
-    let first = parts_of table n names held in
-    let here = some_inner n.1 slot at in
-    let found : get table n.1 ≡ Some e = ap (get table) here ∙ there in
-    let same = entry_inner e first.entry (sym found ∙ first.held) in
-    ap (λ o. Some (advert_of n.0.items o)) found ∙ ap (λ k. Some (named_content k e.content)) (sym first.named ∙ sym (ap (λ x. x.name) same))
-advert_there table slot e (n ∷ names) (suc i) held there at = advert_there table slot e names i (parts_of table n names held).rest there at
-
--- ---- names apart
-
-module _ (eq : Vec ℕ Global → Vec ℕ Global → Bool) (same_test : (a b : Vec ℕ Global) → eq a b ≡ bytes_eq a.items b.items) where
-  -- a name that is apart from the keys is none of theirs
-  not_among : (key : Vec ℕ Global) (name : List ℕ) (names : List Name) (slot : ℕ) → name ≡ key.items → AllByRecursion (λ k. eq key k ≡ false) (keys_of names) → lookup (named name) names ≡ Some slot → ⊥
-  not_among key name [] slot is apart found = absurd (cc)
-  not_among key name (n ∷ names) slot is apart found = by_name (named name n.0) refl found (λ rest. not_among key name names slot is apart.1 rest)
-    where
-      by_name : (b : Bool) → named name n.0 ≡ b → cond b (Some n.1) (lookup (named name) names) ≡ Some slot → (lookup (named name) names ≡ Some slot → ⊥) → ⊥
-      by_name true passes at later =
-          let equal : bytes_eq key.items n.0.items ≡ true = ap (λ k. bytes_eq k n.0.items) (sym is) ∙ passes in
-          let differs : bytes_eq key.items n.0.items ≡ false = sym (same_test key n.0) ∙ apart.0 in
-          cc
-      by_name false passes at later = later at
-
-  -- the name of the entry in a slot is found at that slot
-  pub found_again : (table : Slab Entry) (slot : ℕ) (e : Entry) (names : List Name) → IsDistinct eq (keys_of names) → are_held table names ≡ true → get table slot ≡ Some e → Contains (slots_of names) slot → lookup (named e.name) names ≡ Some slot
-  unfolding IsDistinct
-  found_again table slot e [] distinct held there among = absurd (omega (arith, among.1))
-  found_again table slot e (n ∷ names) distinct held there among = by_place (Contains-cons_cases n.1 slot (slots_of names) among) (λ rest. found_again table slot e names distinct.1 first.rest there rest)
-    where
-      first : Parts table n names
-      first = parts_of table n names held
-
-      first_test : (b : Bool) → named e.name n.0 ≡ b → lookup (named e.name) names ≡ Some slot → cond b (Some n.1) (lookup (named e.name) names) ≡ Some slot
-      first_test true passes rest = absurd (not_among n.0 e.name names slot ((bytes_eq-Decides e.name n.0.items).0 passes) distinct.0 rest)
-      first_test false passes rest = rest
-
-      by_place : (n.1 ≡ slot) ⊎ Contains (slots_of names) slot → (Contains (slots_of names) slot → lookup (named e.name) names ≡ Some slot) → cond (named e.name n.0) (Some n.1) (lookup (named e.name) names) ≡ Some slot
-      by_place (inl here) later =
-          let same = entry_inner e first.entry (sym there ∙ ap (get table) (sym here) ∙ first.held) in
-          let test : named e.name n.0 ≡ true = (bytes_eq-Decides e.name n.0.items).1 (ap (λ x. x.name) same ∙ first.named) in
-          ap (λ b. cond b (Some n.1) (lookup (named e.name) names)) test ∙ ap Some here
-      by_place (inr rest) later = first_test (named e.name n.0) refl (later rest)
-
-  other_name : (table : Slab Entry) (key : Vec ℕ Global) (names : List Name) (j : ℕ) (b : Advert) → AllByRecursion (λ k. eq key k ≡ false) (keys_of names) → slice_get (adverts table names) j ≡ Some b → key.items ≡ b.name → ⊥
-  other_name table key [] j b apart at is = absurd (cc)
-  other_name table key (n ∷ names) zero b apart at is =
-      let name_is : n.0.items ≡ b.name = advert_name _ b at in
-      let equal = (bytes_eq-Decides key.items n.0.items).1 (is ∙ sym name_is) in
-      let differs = sym (same_test key n.0) ∙ apart.0 in
-      absurd (cc)
-    where
-      advert_name : (a c : Advert) → Some a ≡ Some c → a.name ≡ c.name
-      advert_name a c both_are = cc
-  other_name table key (n ∷ names) (suc j) b apart at is = other_name table key names j b apart.1 at is
-
-  pub one_name : (table : Slab Entry) (names : List Name) → IsDistinct eq (keys_of names) → (i j : ℕ) (a b : Advert) → slice_get (adverts table names) i ≡ Some a → slice_get (adverts table names) j ≡ Some b → a.name ≡ b.name → i ≡ j
-  unfolding IsDistinct
-  one_name table [] distinct i j a b at_i at_j same = absurd (cc)
-  one_name table (n ∷ names) distinct zero zero a b at_i at_j same = refl
-  one_name table (n ∷ names) distinct zero (suc j) a b at_i at_j same = absurd (other_name table n.0 names j b distinct.0 at_j (name_of _ a at_i ∙ same))
-    where
-      name_of : (x y : Advert) → Some x ≡ Some y → x.name ≡ y.name
-      name_of x y both_are = cc
-  one_name table (n ∷ names) distinct (suc i) zero a b at_i at_j same = absurd (other_name table n.0 names i a distinct.0 at_i (name_of _ b at_j ∙ sym same))
-    where
-      name_of : (x y : Advert) → Some x ≡ Some y → x.name ≡ y.name
-      name_of x y both_are = cc
-  one_name table (n ∷ names) distinct (suc i) (suc j) a b at_i at_j same = ap suc (one_name table names distinct.1 i j a b at_i at_j same)
-
--- ---- slots apart
-
-other_slot : (slots : List ℕ) (key j slot : ℕ) → list_any (λ s. eqb s key) slots ≡ false → slice_get slots j ≡ Some slot → key ≢ slot
-other_slot [] key j slot apart at = absurd (cc)
-other_slot (s ∷ slots) key zero slot apart at = λ same.
-    let here = some_inner s slot at in
-    let test = (neither (eqb s key) (list_any (λ t. eqb t key) slots) apart).0 in
-    grind (arith, nat_tests)
-other_slot (s ∷ slots) key (suc j) slot apart at = other_slot slots key j slot (neither (eqb s key) (list_any (λ t. eqb t key) slots) apart).1 at
-
-pub one_slot : (table : Slab Entry) (names : List Name) → are_held table names ≡ true → (i j slot : ℕ) → slice_get (slots_of names) i ≡ Some slot → slice_get (slots_of names) j ≡ Some slot → i ≡ j
-one_slot table [] held i j slot at_i at_j = absurd (cc)
-one_slot table (n ∷ names) held zero zero slot at_i at_j = refl
-one_slot table (n ∷ names) held zero (suc j) slot at_i at_j = absurd (other_slot (slots_of names) n.1 j slot (parts_of table n names held).apart at_j (some_inner n.1 slot at_i))
-one_slot table (n ∷ names) held (suc i) zero slot at_i at_j = absurd (other_slot (slots_of names) n.1 i slot (parts_of table n names held).apart at_i (some_inner n.1 slot at_j))
-one_slot table (n ∷ names) held (suc i) (suc j) slot at_i at_j = ap suc (one_slot table names (parts_of table n names held).rest i j slot at_i at_j)
+pub one_name : (table : Slab Entry) (slots : List ℕ) (names : List ℕ → Option ℕ) → AreHeld table slots names → are_apart slots ≡ true
+    → (i j : ℕ) (a b : Advert) → slice_get (adverts table slots) i ≡ Some a → slice_get (adverts table slots) j ≡ Some b → a.name ≡ b.name → i ≡ j
+one_name table slots names held apart i j a b at_i at_j same =
+    let one = slot_of_ad table slots i a at_i in
+    let other = slot_of_ad table slots j b at_j in
+    let led_one : names a.name ≡ Some one.0 = ap (λ x. names x.name) (sym one.2) ∙ held.led one.0 (among-at slots i one.0 one.1) in
+    let led_other : names b.name ≡ Some other.0 = ap (λ x. names x.name) (sym other.2) ∙ held.led other.0 (among-at slots j other.0 other.1) in
+    let slot_same : one.0 ≡ other.0 = same_Some one.0 other.0 (sym led_one ∙ ap names same ∙ led_other) in
+    one_slot slots apart i j one.0 one.1 (other.1 ∙ ap (λ k. Some k) (sym slot_same))
 
 -- ---- time
 
-pub find-slot_beside : (table : Slab Entry) (now : ℕ) (names : List Name) → find (λ s. not (is_live now (advert_of [] (get table s)))) (slots_of names) ≡ slot_beside (λ a. not (is_live now a)) (adverts table names) (slots_of names)
+pub find-slot_beside : (table : Slab Entry) (now : ℕ) (slots : List ℕ)
+    → find (λ s. not (is_live now (advert_of (get table s)))) slots ≡ slot_beside (λ a. not (is_live now a)) (adverts table slots) slots
 find-slot_beside table now [] = refl
-find-slot_beside table now (n ∷ names) = ap (cond (not (is_live now (advert_of [] (get table n.1)))) (Some n.1)) (find-slot_beside table now names)
+find-slot_beside table now (s ∷ slots) = ap (cond (not (is_live now (advert_of (get table s)))) (Some s)) (find-slot_beside table now slots)
 
-pub none_expired : (table : Slab Entry) (now : ℕ) (names : List Name) → slot_beside (λ a. not (is_live now a)) (adverts table names) (slots_of names) ≡ None → filter (is_live now) (adverts table names) ≡ adverts table names
+none_expired : (table : Slab Entry) (now : ℕ) (slots : List ℕ) → slot_beside (λ a. not (is_live now a)) (adverts table slots) slots ≡ None
+    → filter (is_live now) (adverts table slots) ≡ adverts table slots
 none_expired table now [] none = refl
-none_expired table now (n ∷ names) none = by_time (is_live now (advert_of n.0.items (get table n.1))) none (λ rest. none_expired table now names rest)
+none_expired table now (s ∷ slots) none = by_time (is_live now (advert_of (get table s))) none (λ rest. none_expired table now slots rest)
   where
-    by_time : (b : Bool) → cond (not b) (Some n.1) (slot_beside (λ a. not (is_live now a)) (adverts table names) (slots_of names)) ≡ None → (slot_beside (λ a. not (is_live now a)) (adverts table names) (slots_of names) ≡ None → filter (is_live now) (adverts table names) ≡ adverts table names) → cond b (advert_of n.0.items (get table n.1) ∷ filter (is_live now) (adverts table names)) (filter (is_live now) (adverts table names)) ≡ adverts table (n ∷ names)
-    by_time true is later = ap (λ ads. advert_of n.0.items (get table n.1) ∷ ads) (later is)
+    by_time : (b : Bool) → cond (not b) (Some s) (slot_beside (λ a. not (is_live now a)) (adverts table slots) slots) ≡ None
+        → (slot_beside (λ a. not (is_live now a)) (adverts table slots) slots ≡ None → filter (is_live now) (adverts table slots) ≡ adverts table slots)
+        → cond b (advert_of (get table s) ∷ filter (is_live now) (adverts table slots)) (filter (is_live now) (adverts table slots)) ≡ adverts table (s ∷ slots)
+    by_time true is later = ap (λ ads. advert_of (get table s) ∷ ads) (later is)
     by_time false is later = absurd (cc)
 
-pub live_if_none : (table : Slab Entry) (now : ℕ) (names : List Name) (o : Option ℕ) → o ≡ slot_beside (λ a. not (is_live now a)) (adverts table names) (slots_of names) → IfNone o (filter (is_live now) (adverts table names) ≡ adverts table names)
-live_if_none table now names None told = none_expired table now names (sym told)
-live_if_none table now names (Some slot) told = tt
+pub live_if_none : (table : Slab Entry) (now : ℕ) (slots : List ℕ) (o : Option ℕ) → o ≡ slot_beside (λ a. not (is_live now a)) (adverts table slots) slots
+    → IfNone o (filter (is_live now) (adverts table slots) ≡ adverts table slots)
+live_if_none table now slots None told = none_expired table now slots (sym told)
+live_if_none table now slots (Some slot) told = tt
 
-found_beside : (test : Advert → Bool) (table : Slab Entry) (names : List Name) (slot : ℕ) → slot_beside test (adverts table names) (slots_of names) ≡ Some slot → Contains (slots_of names) slot
-found_beside test table [] slot found = absurd (cc)
-found_beside test table (n ∷ names) slot found = by_test (test (advert_of n.0.items (get table n.1))) found (λ rest. found_beside test table names slot rest)
-  where
-    by_test : (b : Bool) → cond b (Some n.1) (slot_beside test (adverts table names) (slots_of names)) ≡ Some slot → (slot_beside test (adverts table names) (slots_of names) ≡ Some slot → Contains (slots_of names) slot) → Contains (n.1 ∷ slots_of names) slot
-    by_test true is later = (0, omega arith, some_inner n.1 slot is)
-    by_test false is later = Contains-cons n.1 slot (slots_of names) (later is)
+pub held_if_some : (test : Advert → Bool) (table : Slab Entry) (slots : List ℕ) (o : Option ℕ) → o ≡ slot_beside test (adverts table slots) slots
+    → IfSome o (Contains slots)
+held_if_some test table slots None told = tt
+held_if_some test table slots (Some slot) told = among-contained slots slot (beside-some table test slots slot (sym told)).0
 
-pub held_if_some : (test : Advert → Bool) (table : Slab Entry) (names : List Name) (o : Option ℕ) → o ≡ slot_beside test (adverts table names) (slots_of names) → IfSome o (Contains (slots_of names))
-held_if_some test table names None told = tt
-held_if_some test table names (Some slot) told = found_beside test table names slot (sym told)
+pub filter-slots_beside : (table : Slab Entry) (now : ℕ) (slots : List ℕ)
+    → filter (λ s. not (is_live now (advert_of (get table s)))) slots ≡ slots_beside (λ a. not (is_live now a)) (adverts table slots) slots
+filter-slots_beside table now [] = refl
+filter-slots_beside table now (s ∷ slots) =
+    ap (λ l. cond (not (is_live now (advert_of (get table s)))) (s ∷ l) l) (filter-slots_beside table now slots)
 
--- ---- an answer that is there
+module _ (test : Advert → Bool) where
+  beside_held : (ads : List Advert) (slots : List ℕ) → All (Contains slots) (slots_beside test ads slots)
+  beside_held [] slots = All-nil (Contains slots)
+  beside_held (advert ∷ ads) [] = All-nil (Contains [])
+  beside_held (advert ∷ ads) (s ∷ slots) = by (test advert) (wider (slots_beside test ads slots) (beside_held ads slots))
+    where
+      wider : (found : List ℕ) → All (Contains slots) found → All (Contains (s ∷ slots)) found
+      wider found all = λ k d within. Contains-cons s (get_or found k d) slots (all k d within)
 
-pub place_from : (o : Option ℕ) (slots : List ℕ) (slot : ℕ) (found : Option ℕ) → IfSome o (λ i. slice_get slots i ≡ found) → found ≡ Some slot → is_some o ≡ is_some found → slice_get slots (unwrap_or o 0) ≡ Some slot
-place_from None slots slot found at is there = let some : is_some found ≡ true = ap is_some is in absurd (cc)
-place_from (Some i) slots slot found at is there = at ∙ is
+      by : (b : Bool) → All (Contains (s ∷ slots)) (slots_beside test ads slots)
+          → All (Contains (s ∷ slots)) (cond b (s ∷ slots_beside test ads slots) (slots_beside test ads slots))
+      by true rest = All-cons (Contains (s ∷ slots)) s (slots_beside test ads slots) (0, omega arith, refl) rest
+      by false rest = rest
+
+  pub held_if_told : {E : Type 0} (ads : List Advert) (slots : List ℕ) (told : Result (List ℕ) E) → IfOk told (λ found. found ≡ slots_beside test ads slots)
+      → IfOk told (All (Contains slots))
+  held_if_told ads slots (Ok found) is = subst (All (Contains slots)) (sym is) (beside_held ads slots)
+  held_if_told ads slots (Err fault) is = tt

@@ -45,6 +45,11 @@ abbrev pub slot_beside : (Advert → Bool) → List Advert → List ℕ → Opti
 slot_beside test (advert ∷ ads) (slot ∷ slots) = if test advert then Some slot else slot_beside test ads slots
 slot_beside test ads slots = None
 
+-- the slots beside the ads that pass a test, in order
+abbrev pub slots_beside : (Advert → Bool) → List Advert → List ℕ → List ℕ
+slots_beside test (advert ∷ ads) (slot ∷ slots) = if test advert then slot ∷ slots_beside test ads slots else slots_beside test ads slots
+slots_beside test ads slots = []
+
 -- the slot of the ad of this name
 abbrev pub slot_named : List ℕ → Stock → Option ℕ
 slot_named name stock = slot_beside (is_named name) stock.ads stock.slots
@@ -62,6 +67,10 @@ first_expired now stock = slot_beside (λ advert. not (is_live now advert)) stoc
 -- no ad's lifetime ends before this moment
 abbrev pub EndFrom : ℕ → List Advert → Type 0
 EndFrom moment ads = All (λ advert. moment ≤ advert.born + advert.lifetime) ads
+
+-- the slots of all ads that aren't live, in order
+abbrev pub expired_slots : ℕ → Stock → List ℕ
+expired_slots now stock = slots_beside (λ advert. not (is_live now advert)) stock.ads stock.slots
 
 -- ---- limits
 

@@ -1,20 +1,24 @@
-// The store: names in order, each with a slot, and the ads in a table of slots.
-ghost use Rattle.std.specs.Prelude.{◌≡◌, ◌+◌, ◌≤◌, ℕ, [], true, false, not, filter, find, nat_lt, ◌<◌, All, length, slice_get, option_map, bytes_eq, IsTrue, IfErr, IfNone, IfOk, IfSome, None, OnErr, OnOk, Some, Contains};
+// The store: slots in order, the ads in a table of slots, and names that lead to slots.
+ghost use Rattle.std.specs.Prelude.{◌≡◌, ◌==◌, ◌++◌, ◌∷◌, List, ◌+◌, ◌≤◌, ℕ, [], true, false, not, filter, find, nat_lt, ◌<◌, All, length, slice_get};
+ghost use Rattle.std.specs.Prelude.{option_map, bytes_eq, IsTrue, IfErr, IfNone, IfOk, IfSome, None, OnErr, OnOk, Some, Contains};
+ghost use Rattle.std.specs.List.{list_any};
 ghost use Rattle.std.specs.Option.{option_map_or};
-ghost use Rattle.indexmap.specs.IndexMap.{get_by};
 ghost use Rattle.slab.specs.Slab.{ContainsKey, Updates, get};
+ghost use Rattle.slot_order.specs.Cells.{listed};
+ghost use Rattle.slot_order.specs.Names.{Turns, slot_at};
+ghost use Rattle.slot_order.specs.Slots.{with_last};
 ghost use Rattle.ad_tree.specs.Ad.{ad_frames};
 ghost use Rattle.ad_store.specs.Answers.{IsCause, is_added, slot_put, slots_put};
-ghost use Rattle.ad_store.specs.Held.{IsEntered, advert_of, adverts, end_of, are_held, named_content};
+ghost use Rattle.ad_store.specs.Held.{AreHeld, advert_of, adverts, end_of, named_content};
 ghost use Rattle.ad_store.specs.Stock.{EndFrom, ads_limit, is_live, text_held, text_limit};
 
 use crate::entry::{Content, Entry};
 use crate::{NoName, Put, PutFault};
 use ad_tree::Ad;
-use indexmap::IndexMap;
 use pool_steps::Steps;
-use pool_text::{OutOfMemory, Text};
+use pool_text::{OutOfMemory, Slots, Text};
 use slab::Slab;
+use slot_order::{SlotNames, SlotOrder};
 use std::alloc::Global;
 use std::sync::ledger::Ledger;
 
@@ -25,24 +29,26 @@ const TEXT_LIMIT: u64 = 33_554_432;
 /// The ads that are held, each under a name of its own, in the order in which their names came. An ad keeps the slot
 /// that it is given until it leaves, also where another takes its place.
 ///
-/// A name is found by its hash, and a slot by its number; neither look-up takes memory.
+/// A name is found by comparing it with a few others, and a slot by its number; neither look-up takes memory. An ad that leaves
+/// makes a gap in the order, so that none behind it is moved: `place` and `at` take a step once `settle_order` has closed the gaps.
 #[derive(Drop)]
 pub struct Store {
     alloc: Global,
-    names: IndexMap<Vec<u8>, usize>,
+    names: SlotNames,
     table: Slab<Entry>,
+    order: SlotOrder,
     text: u64,
     // No lifetime ends before it, so that a moment before it expires nothing.
     soonest: u64,
-    ghost held: { IsTrue (are_held table names.entries) },
-    ghost counted: { text ≡ text_held (adverts table names.entries) },
+    ghost held: { AreHeld table order (slot_at names) },
+    ghost counted: { text ≡ text_held (adverts table order) },
     ghost within: { text ≤ text_limit },
-    ghost few: { length names.entries ≤ ads_limit },
-    ghost due: { EndFrom soonest (adverts table names.entries) },
+    ghost few: { length order ≤ ads_limit },
+    ghost due: { EndFrom soonest (adverts table order) },
 }
 
 impl Store {
-    ghost use Rattle.ad_store.specs.Stock.{Advert, first_expired, has, lack, placed, slot_named, slots_without, without};
+    ghost use Rattle.ad_store.specs.Stock.{Advert, expired_slots, first_expired, has, lack, placed, slot_named, slots_without, without};
     ghost use Rattle.ad_store.specs.Store.{stock_of};
 
     /// A store that holds no ad, which takes no memory yet.
@@ -51,8 +57,9 @@ impl Store {
     {
         Store {
             alloc,
-            names: IndexMap::new(alloc),
+            names: SlotNames::new(alloc),
             table: Slab::new(alloc),
+            order: SlotOrder::new(alloc),
             text: 0,
             soonest: u64::MAX,
         }
@@ -86,6 +93,7 @@ impl Store {
             size: text_len,
             ad,
         };
+        self.order.slots_are_apart();
         let Some(slot) = self.slot_of(name) else {
             return self.add(name, content);
         };
@@ -110,7 +118,7 @@ impl Store {
         ensures cause { IfErr result (λ fault. IsCause fault (lack name.now content.size (stock_of self.old).ads)) }
         ensures err { OnErr result (stock_of self.new ≡ stock_of self.old) }
     {
-        if self.names.len() >= ADS_LIMIT {
+        if self.order.len() >= ADS_LIMIT {
             return Err(PutFault::Full);
         }
         let size = content.size;
@@ -118,7 +126,14 @@ impl Store {
         if self.text.saturating_add(size) > TEXT_LIMIT {
             return Err(PutFault::FullText);
         }
-        let Ok(slot) = enter(self.alloc, &mut self.names, &mut self.table, name, content) else {
+        let Ok(slot) = enter(
+            self.alloc,
+            &mut self.names,
+            &mut self.table,
+            &mut self.order,
+            name,
+            content,
+        ) else {
             return Err(PutFault::OutOfMemory);
         };
         self.text += size;
@@ -138,7 +153,9 @@ impl Store {
         let Some(slot) = self.slot_of(name) else {
             return Err(NoName);
         };
-        self.names.shift_remove(name);
+        self.order.slots_are_apart();
+        self.names.remove(name);
+        self.order.remove(slot);
         let entry = self.table.remove(slot);
         self.text -= entry.content.size;
         Ok(slot)
@@ -150,7 +167,7 @@ impl Store {
         ensures slots { result ≡ length (stock_of self.now).slots }
         ensures few { result ≤ ads_limit }
     {
-        self.names.len()
+        self.order.len()
     }
 
     /// The slot of the ad at place `i` of the order, counted from 0.
@@ -159,8 +176,7 @@ impl Store {
         ensures place { slice_get (stock_of self.now).slots i ≡ Some result }
         ensures held { Contains (stock_of self.now).slots result }
     {
-        let slots: &[usize] = self.names.values().as_slice();
-        slots[i]
+        self.order.at(i).unwrap_or(0)
     }
 
     /// The place in the order of the ad in this slot.
@@ -168,28 +184,7 @@ impl Store {
         requires { Contains (stock_of self.now).slots slot }
         ensures { slice_get (stock_of self.now).slots result ≡ Some slot }
     {
-        // Slots are given out in order, so until an ad leaves a slot's number is its place.
-        if self.stands_at(slot, slot) {
-            return slot;
-        }
-        self.place_by_name(slot)
-    }
-
-    // Whether the ad at a place is the one in this slot.
-    fn stands_at(&self, place: usize, slot: usize) -> bool
-        ensures { IsTrue result → slice_get (stock_of self.now).slots place ≡ Some slot }
-    {
-        let slots: &[usize] = self.names.values().as_slice();
-        slots.get(place) == Some(&slot)
-    }
-
-    // The place of the ad in this slot, by its name.
-    fn place_by_name(&self, slot: usize) -> usize
-        requires { Contains (stock_of self.now).slots slot }
-        ensures { slice_get (stock_of self.now).slots result ≡ Some slot }
-    {
-        let name = self.entry(slot).name.bytes();
-        self.names.get_index_of(name).unwrap_or(0)
+        self.order.place(slot).unwrap_or(0)
     }
 
     /// The slot of the ad of this name, `None` exactly where none is held.
@@ -197,7 +192,7 @@ impl Store {
         ensures slot { result ≡ slot_named name.now (stock_of self.now) }
         ensures held { IfSome result (Contains (stock_of self.now).slots) }
     {
-        self.names.get(name).copied()
+        self.names.get(name)
     }
 
     /// The slot of the first ad in order that isn't live at a moment, `None` exactly where all are.
@@ -209,7 +204,18 @@ impl Store {
         if now < self.soonest {
             return None;
         }
-        first_expired(&self.table, self.names.values().as_slice(), now)
+        first_expired(&self.table, self.order.cells(), now)
+    }
+
+    /// The slots of all ads that aren't live at a moment, in order, found in one pass.
+    pub fn expired(&self, now: u64) -> Result<Slots, OutOfMemory>
+        ensures slots { IfOk result (λ slots. slots ≡ expired_slots now (stock_of self.now)) }
+        ensures held { IfOk result (All (Contains (stock_of self.now).slots)) }
+    {
+        if now < self.soonest {
+            return Ok(Slots::new(self.alloc));
+        }
+        expired_in(self.alloc, &self.table, self.order.cells(), now)
     }
 
     /// Takes note of when the next ad expires, for a moment at which none is left to expire: `next_expired` goes through no ad
@@ -220,7 +226,14 @@ impl Store {
         if now < self.soonest {
             return;
         }
-        self.soonest = soonest_end(&self.table, self.names.values().as_slice());
+        self.soonest = soonest_end(&self.table, self.order.cells());
+    }
+
+    /// Closes the gaps that ads left in the order, so that `at` and `place` take a step each until an ad leaves.
+    pub fn settle_order(&mut self)
+        ensures { stock_of self.new ≡ stock_of self.old }
+    {
+        self.order.settle();
     }
 
     // What lies in a slot.
@@ -288,8 +301,7 @@ impl Store {
             → a.name ≡ b.name
             → i ≡ j }
     {
-        // The map's length comes with the fact that its keys differ.
-        let _len = self.names.len();
+        self.order.slots_are_apart();
     }
 
     /// Law: no two ads have one slot.
@@ -299,27 +311,53 @@ impl Store {
             → slice_get (stock_of self.now).slots j ≡ Some slot
             → i ≡ j }
     {
-        let _held = self.names.len();
+        self.order.slots_are_apart();
     }
 }
 
-// The first of the slots whose ad isn't live.
-fn first_expired(table: &Slab<Entry>, slots: &[usize], now: u64) -> Option<usize>
-    ensures { result ≡ find (λ slot. not (is_live now (advert_of [] (get table.now slot)))) slots.now }
+// The first of the slots in these cells whose ad isn't live.
+fn first_expired(table: &Slab<Entry>, cells: &[Option<usize>], now: u64) -> Option<usize>
+    ensures { result ≡ find (λ slot. not (is_live now (advert_of (get table.now slot)))) (listed cells.now) }
 {
-    slots
-        .iter()
-        .copied()
-        .find(|slot| !is_live_at(table, *slot, now))
+    for k in 0..cells.len() {
+        if let Some(slot) = cells[k]
+            && !is_live_at(table, slot, now)
+        {
+            return Some(slot);
+        }
+    }
+    None
 }
 
-// A moment before which no ad in these slots ends its lifetime.
-fn soonest_end(table: &Slab<Entry>, slots: &[usize]) -> u64
-    ensures { All (λ slot. result ≤ end_of (get table.now slot)) slots.now }
+// The slots in these cells whose ads aren't live, in order.
+fn expired_in(
+    alloc: Global,
+    table: &Slab<Entry>,
+    cells: &[Option<usize>],
+    now: u64,
+) -> Result<Slots, OutOfMemory>
+    ensures { IfOk result (λ slots. slots ≡ filter (λ slot. not (is_live now (advert_of (get table.now slot)))) (listed cells.now)) }
+{
+    let mut slots = Slots::new(alloc);
+    for k in 0..cells.len() {
+        if let Some(slot) = cells[k]
+            && !is_live_at(table, slot, now)
+        {
+            slots.push(slot)?;
+        }
+    }
+    Ok(slots)
+}
+
+// A moment before which no ad in the slots of these cells ends its lifetime.
+fn soonest_end(table: &Slab<Entry>, cells: &[Option<usize>]) -> u64
+    ensures { All (λ slot. result ≤ end_of (get table.now slot)) (listed cells.now) }
 {
     let mut soonest = u64::MAX;
-    for k in 0..slots.len() {
-        soonest = soonest.min(end_at(table, slots[k]));
+    for k in 0..cells.len() {
+        if let Some(slot) = cells[k] {
+            soonest = soonest.min(end_at(table, slot));
+        }
     }
     soonest
 }
@@ -336,7 +374,7 @@ fn end_at(table: &Slab<Entry>, slot: usize) -> u64
 
 // Whether the ad in this slot is live.
 fn is_live_at(table: &Slab<Entry>, slot: usize, now: u64) -> bool
-    ensures { result ≡ is_live now (advert_of [] (get table.now slot)) }
+    ensures { result ≡ is_live now (advert_of (get table.now slot)) }
 {
     match table.get(slot) {
         Some(entry) => is_within(now, entry.content.born, entry.content.lifetime),
@@ -371,27 +409,34 @@ fn renew(table: &mut Slab<Entry>, slot: usize, content: Content)
     });
 }
 
-// Puts a new name last, with an ad in a slot of its own. Memory is taken first.
+// Puts an ad under a new name into a slot of its own, which goes last. Memory is taken first.
 fn enter(
     alloc: Global,
-    names: &mut IndexMap<Vec<u8>, usize>,
+    names: &mut SlotNames,
     table: &mut Slab<Entry>,
+    order: &mut SlotOrder,
     name: &[u8],
     content: Content,
 ) -> Result<usize, OutOfMemory>
-    requires { get_by (λ k. bytes_eq name.now k.items) names.old ≡ None }
-    ensures entered { IfOk result (λ slot. IsEntered names.old.entries names.new.entries table.old table.new name.now slot content) }
-    ensures names { OnErr result (names.new.entries ≡ names.old.entries) }
-    ensures table { OnErr result (table.new.slots ≡ table.old.slots) }
+    requires { (slot : ℕ) → list_any (λ s. s == slot) order.old ≡ true → ContainsKey table.old slot }
+    ensures vacant { IfOk result (λ slot. get table.old slot ≡ None) }
+    ensures order { IfOk result (λ slot. order.new ≡ order.old ++ slot ∷ []) }
+    ensures turns { IfOk result (λ slot. Turns name.now (Some slot) names.old names.new) }
+    ensures changes { IfOk result (λ slot. Updates table.old table.new slot (Some (record { name = name.now; content = content }))) }
+    ensures order_left { OnErr result (order.new ≡ order.old) }
+    ensures names_left { OnErr result ((other : List ℕ) → slot_at names.new other ≡ slot_at names.old other) }
+    ensures table_left { OnErr result (table.new.slots ≡ table.old.slots) }
 {
     let entry = Entry {
         name: Text::from_bytes(alloc, name)?,
         content,
     };
-    let key = Vec::from_slice(alloc, name)?;
-    names.reserve(1)?;
     table.reserve(1)?;
     let slot = table.vacant_key();
-    names.insert(key, slot)?;
+    order.push(slot)?;
+    if names.insert(alloc, name, slot).is_err() {
+        order.remove(slot);
+        return Err(OutOfMemory);
+    }
     Ok(table.insert_reserved(entry))
 }

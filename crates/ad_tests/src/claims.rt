@@ -43,7 +43,8 @@ fn gang(alloc: Global) -> Result<Request, OutOfMemory>
 
 // A table with one job, which is idle.
 fn with_job(alloc: Global, request: Request) -> Result<ClaimTable, SubmitFault>
-    ensures { IfOk result (λ table. jobs_of table ≡ (record { name = 103 ∷ []; user = 117 ∷ []; text_len = 9; request = request; standing = Stage.Idle }) ∷ []) }
+    ensures { IfOk result (λ table. jobs_of table ≡ (record
+        { name = 103 ∷ []; user = 117 ∷ []; text_len = 9; request = request; standing = Stage.Idle }) ∷ []) }
 {
     let mut table = ClaimTable::new(alloc);
     table.submit(b"g", b"u", request, 9)?;

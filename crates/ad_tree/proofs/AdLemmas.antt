@@ -1,11 +1,13 @@
 -- Laws of ads: where cited frames stand, that numbering makes ads, and that an ad is opened level by level.
-use Rattle.std.proofs.Common.{refl, arith, ◌≡◌, ◌≤◌, ◌<◌, ℕ, zero, suc, ◌+◌, List, [], ◌∷◌, ◌++◌, length, true, ap, sym, ◌∙◌, subst, Option, None, Some, option_map, slice_get, Contains, IsTrue}
+use Rattle.std.proofs.Common.{refl, arith, ◌≡◌, ◌≤◌, ◌<◌, ℕ, zero, suc, ◌+◌, List, [], ◌∷◌, ◌++◌, length, true, ap, sym, ◌∙◌, subst, Option, None, Some}
+use Rattle.std.proofs.Common.{option_map, slice_get, Contains, IsTrue}
 use Rattle.std.proofs.lemmas.List.Elements.{Contains-append_left, Contains-append_right}
 use Rattle.std.proofs.lemmas.Option.{slice_get_within, slice_get_past}
 use Rattle.ad_tree.specs.Tree.{Tree, node, frame, Trees, none, more, cited, cited_all}
 use Rattle.ad_tree.specs.Names.{are_apart}
 use Rattle.ad_tree.specs.Frames.{Frame, empty_frame, attributes_at, attributes_in, names_of, names_in, cited_in, parent_of, IsAd}
-use Rattle.ad_tree.specs.Inline.{Inline, shape, inner, Inlines, end, next, Defs, no_defs, def, count, number, number_all, attributes_from, frames, frames_all, frames_in, inlined, inlined_all, defs_of, inside, spelled_tree, is_apart, all_apart, defs_apart}
+use Rattle.ad_tree.specs.Inline.{Inline, shape, inner, Inlines, end, next, Defs, no_defs, def, count, number, number_all, attributes_from, frames, frames_all}
+use Rattle.ad_tree.specs.Inline.{frames_in, inlined, inlined_all, defs_of, inside, spelled_tree, is_apart, all_apart, defs_apart}
 use Rattle.ad_tree.proofs.NameLemmas.{both_left, both_right, both}
 use Rattle.ad_tree.proofs.InlineLemmas.{length-frames, names-attributes_from, names-defs_of, inlined-apart, defs_of-apart}
 use Rattle.ad_tree.proofs.SpellingLemmas.{Stand, Stand-left, Stand-right, Stand-behind, as_it_is, map-as_it_is}
@@ -95,7 +97,9 @@ IsAd-sound fs root h = record {
       where
         none : Contains [] g → ⊥
         none k = omega (arith, k.1)
-    nested f g (Some k) at c = Each-contains (λ m. parent_of fs m ≡ Some f) (cited_in k.attributes) g (AreSound-from_start fs fs f k h at).nested (subst (λ o. Contains (cited_in (attributes_in o)) g) at c)
+    nested f g (Some k) at c =
+        Each-contains (λ m. parent_of fs m ≡ Some f) (cited_in k.attributes) g (AreSound-from_start fs fs f k h at).nested
+        (subst (λ o. Contains (cited_in (attributes_in o)) g) at c)
 
 -- the frames that a numbered tree cites have its frame as their parent
 module _ (fs : List Frame) where
@@ -104,21 +108,25 @@ module _ (fs : List Frame) where
     cited-number p b (shape label is) h s = cited-number_all p b is h s
     cited-number p b (inner ds) h s = (parent-there fs b (record { parent = p; attributes = attributes_from (suc b) ds }) h s.0, tt)
 
-    cited-number_all : (p b : ℕ) (is : Inlines) → 0 < b → Stand as_it_is fs b (frames_all p b is) → Each (λ f. parent_of fs f ≡ Some p) (cited_all (number_all b is))
+    cited-number_all : (p b : ℕ) (is : Inlines) → 0 < b → Stand as_it_is fs b (frames_all p b is)
+        → Each (λ f. parent_of fs f ≡ Some p) (cited_all (number_all b is))
     cited-number_all p b end h s = tt
     cited-number_all p b (next i is) h s =
         Each-append (λ f. parent_of fs f ≡ Some p) (cited (number b i)) (cited_all (number_all (b + count i) is))
         (cited-number p b i h (Stand-left as_it_is fs b (frames p b i) (frames_all p (b + count i) is) s))
         (cited-number_all p (b + count i) is (omega (arith, h))
-        (subst (λ m. Stand as_it_is fs (b + m) (frames_all p (b + count i) is)) (length-frames p b i) (Stand-right as_it_is fs b (frames p b i) (frames_all p (b + count i) is) s)))
+        (subst (λ m. Stand as_it_is fs (b + m) (frames_all p (b + count i) is)) (length-frames p b i)
+        (Stand-right as_it_is fs b (frames p b i) (frames_all p (b + count i) is) s)))
 
-  cited-attributes : (p b : ℕ) (ds : Defs) → 0 < b → Stand as_it_is fs b (frames_in p b ds) → Each (λ f. parent_of fs f ≡ Some p) (cited_in (attributes_from b ds))
+  cited-attributes : (p b : ℕ) (ds : Defs) → 0 < b → Stand as_it_is fs b (frames_in p b ds)
+      → Each (λ f. parent_of fs f ≡ Some p) (cited_in (attributes_from b ds))
   cited-attributes p b no_defs h s = tt
   cited-attributes p b (def name i ds) h s =
       Each-append (λ f. parent_of fs f ≡ Some p) (cited (number b i)) (cited_in (attributes_from (b + count i) ds))
       (cited-number p b i h (Stand-left as_it_is fs b (frames p b i) (frames_in p (b + count i) ds) s))
       (cited-attributes p (b + count i) ds (omega (arith, h))
-      (subst (λ m. Stand as_it_is fs (b + m) (frames_in p (b + count i) ds)) (length-frames p b i) (Stand-right as_it_is fs b (frames p b i) (frames_in p (b + count i) ds) s)))
+      (subst (λ m. Stand as_it_is fs (b + m) (frames_in p (b + count i) ds)) (length-frames p b i)
+      (Stand-right as_it_is fs b (frames p b i) (frames_in p (b + count i) ds) s)))
 
   -- an ad literal's frame is sound
   sound-inner : (p b : ℕ) (ds : Defs) → (0 < b → p < b) → is_apart (inner ds) ≡ true → Stand as_it_is fs (suc b) (frames_in b (suc b) ds)
@@ -142,7 +150,8 @@ module _ (fs : List Frame) where
         (sound-frames p b i low (both_left _ _ h) (Stand-left as_it_is fs b (frames p b i) (frames_all p (b + count i) is) s))
         (subst (λ m. AreSound fs (b + m) (frames_all p (b + count i) is)) (sym (length-frames p b i))
         (sound-frames_all p (b + count i) is (omega (arith, low)) (both_right _ _ h)
-        (subst (λ m. Stand as_it_is fs (b + m) (frames_all p (b + count i) is)) (length-frames p b i) (Stand-right as_it_is fs b (frames p b i) (frames_all p (b + count i) is) s))))
+        (subst (λ m. Stand as_it_is fs (b + m) (frames_all p (b + count i) is)) (length-frames p b i)
+        (Stand-right as_it_is fs b (frames p b i) (frames_all p (b + count i) is) s))))
 
     sound-frames_in : (p b : ℕ) (ds : Defs) → p < b → defs_apart ds ≡ true → Stand as_it_is fs b (frames_in p b ds) → AreSound fs b (frames_in p b ds)
     sound-frames_in p b no_defs low h s = tt
@@ -151,7 +160,8 @@ module _ (fs : List Frame) where
         (sound-frames p b i low (both_left _ _ h) (Stand-left as_it_is fs b (frames p b i) (frames_in p (b + count i) ds) s))
         (subst (λ m. AreSound fs (b + m) (frames_in p (b + count i) ds)) (sym (length-frames p b i))
         (sound-frames_in p (b + count i) ds (omega (arith, low)) (both_right _ _ h)
-        (subst (λ m. Stand as_it_is fs (b + m) (frames_in p (b + count i) ds)) (length-frames p b i) (Stand-right as_it_is fs b (frames p b i) (frames_in p (b + count i) ds) s))))
+        (subst (λ m. Stand as_it_is fs (b + m) (frames_in p (b + count i) ds)) (length-frames p b i)
+        (Stand-right as_it_is fs b (frames p b i) (frames_in p (b + count i) ds) s))))
 
 -- frames stand behind what is before them, as they are
 Stand-plainly : (before gs : List Frame) → Stand as_it_is (before ++ gs) (length before) gs
@@ -212,7 +222,8 @@ mutual
       ap (λ i. next i (inlined_all k ts)) (inlined-along k m t (λ f c. h f (Contains-append_left (cited t) (cited_all ts) f c)))
       ∙ ap (next (inlined m t)) (inlined_all-along k m ts (λ f c. h f (Contains-append_right (cited t) (cited_all ts) f c)))
 
-pub defs_of-along : (k m : ℕ → Defs) (attributes : List (List ℕ × Tree)) → ((f : ℕ) → Contains (cited_in attributes) f → k f ≡ m f) → defs_of k attributes ≡ defs_of m attributes
+pub defs_of-along : (k m : ℕ → Defs) (attributes : List (List ℕ × Tree)) → ((f : ℕ) → Contains (cited_in attributes) f → k f ≡ m f)
+    → defs_of k attributes ≡ defs_of m attributes
 defs_of-along k m [] h = refl
 defs_of-along k m (a ∷ rest) h =
     ap (λ i. def a.0 i (defs_of k rest)) (inlined-along k m a.1 (λ f c. h f (Contains-append_left (cited a.1) (cited_in rest) f c)))

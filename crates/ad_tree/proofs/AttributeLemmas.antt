@@ -45,16 +45,19 @@ apart-put_name name (n ∷ ns) h = by (same_name name n) refl (apart-put_name na
     by false e k = both _ _ (ap not (has_name-put n name ns e (not_true _ (both_left _ _ h)))) k
 
 -- one attribute more at the end
-pub put_all-push : (done attributes : List (List ℕ × Tree)) (name : List ℕ) (t : Tree) → put_all done (attributes ++ (name, t) ∷ []) ≡ put_attribute name t (put_all done attributes)
+pub put_all-push : (done attributes : List (List ℕ × Tree)) (name : List ℕ) (t : Tree)
+    → put_all done (attributes ++ (name, t) ∷ []) ≡ put_attribute name t (put_all done attributes)
 put_all-push done [] name t = refl
 put_all-push done (a ∷ rest) name t = put_all-push (put_attribute a.0 a.1 done) rest name t
 
 -- a name that is not there goes last
-later : (m : List ℕ) (attributes rest : List (List ℕ × Tree)) (a : List ℕ × Tree) → has_name m (names_of (attributes ++ a ∷ rest)) ≡ false → same_name a.0 m ≡ false
+later : (m : List ℕ) (attributes rest : List (List ℕ × Tree)) (a : List ℕ × Tree) → has_name m (names_of (attributes ++ a ∷ rest)) ≡ false
+    → same_name a.0 m ≡ false
 later m [] rest a h = neither_left _ _ h
 later m (b ∷ bs) rest a h = later m bs rest a (neither_right _ _ h)
 
-pub put_attribute-new : (done rest : List (List ℕ × Tree)) (a : List ℕ × Tree) → are_apart (names_of (done ++ a ∷ rest)) ≡ true → put_attribute a.0 a.1 done ≡ done ++ a ∷ []
+pub put_attribute-new : (done rest : List (List ℕ × Tree)) (a : List ℕ × Tree) → are_apart (names_of (done ++ a ∷ rest)) ≡ true
+    → put_attribute a.0 a.1 done ≡ done ++ a ∷ []
 put_attribute-new [] rest a h = refl
 put_attribute-new (d ∷ ds) rest a h =
     ap (λ b. cond b ((a.0, a.1) ∷ ds) (d ∷ put_attribute a.0 a.1 ds)) (later d.0 ds rest a (not_true _ (both_left _ _ h)))

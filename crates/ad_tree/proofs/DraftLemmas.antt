@@ -1,5 +1,6 @@
 -- The frames of a draft: the root, and those behind it.
-use Rattle.std.proofs.Common.{refl, arith, ◌≡◌, ◌<◌, ◌-◌, ℕ, zero, suc, List, [], ◌∷◌, length, get_or, ap, sym, ◌∙◌, Some, option_map, slice_get, slice_set, Result, Ok, Err, OnOk, OnErr}
+use Rattle.std.proofs.Common.{refl, arith, ◌≡◌, ◌<◌, ◌-◌, ℕ, zero, suc, List, [], ◌∷◌, length, get_or, ap, sym, ◌∙◌, Some, option_map, slice_get, slice_set}
+use Rattle.std.proofs.Common.{Result, Ok, Err, OnOk, OnErr}
 use Rattle.std.proofs.lemmas.Option.{slice_get_read, slice_get-map}
 use Rattle.ad_tree.specs.declared.frame.AdFrame.{AdFrame}
 use Rattle.ad_tree.specs.Tree.{Tree}
@@ -23,14 +24,16 @@ frames_of-set [] k x = refl
 frames_of-set (g ∷ gs) zero x = refl
 frames_of-set (g ∷ gs) (suc k) x = ap (λ hs. frame_of g ∷ hs) (frames_of-set gs k x)
 
-defined-set : (fs : List AdFrame) (k : ℕ) (x old : AdFrame) (name : List ℕ) (t : Tree) → k < length fs → old ≡ get_or fs k old → frame_of x ≡ defined_in (frame_of old) name t
+defined-set : (fs : List AdFrame) (k : ℕ) (x old : AdFrame) (name : List ℕ) (t : Tree) → k < length fs → old ≡ get_or fs k old
+    → frame_of x ≡ defined_in (frame_of old) name t
     → slice_set (frames_of fs) k (frame_of x) ≡ defined (frames_of fs) k name t
 defined-set [] k x old name t h e d = absurd (omega (arith, h))
 defined-set (g ∷ gs) zero x old name t h e d = ap (λ f. f ∷ frames_of gs) (d ∙ ap (λ o. defined_in (frame_of o) name t) e)
 defined-set (g ∷ gs) (suc k) x old name t h e d = ap (λ hs. frame_of g ∷ hs) (defined-set gs k x old name t (omega (arith, h)) e d)
 
 -- a frame behind the root takes a definition
-pub inner-defined : (root : Frame) (fs : List AdFrame) (f : ℕ) (x old : AdFrame) (name : List ℕ) (t : Tree) → (f ≡ 0 → ⊥) → f - 1 < length fs → old ≡ get_or fs (f - 1) old
+pub inner-defined : (root : Frame) (fs : List AdFrame) (f : ℕ) (x old : AdFrame) (name : List ℕ) (t : Tree) → (f ≡ 0 → ⊥) → f - 1 < length fs
+    → old ≡ get_or fs (f - 1) old
     → frame_of x ≡ defined_in (frame_of old) name t
     → root ∷ frames_of (slice_set fs (f - 1) x) ≡ defined (root ∷ frames_of fs) f name t
 inner-defined root fs zero x old name t n h e d = absurd (n refl)
@@ -39,7 +42,8 @@ inner-defined root fs (suc f) x old name t n h e d =
     ∙ ap (λ hs. root ∷ hs) (frames_of-set fs f x ∙ defined-set fs f x old name t (omega (arith, h)) (e ∙ ap (λ k. get_or fs k old) (less_one f)) d)
 
 -- or stays as it was
-same-set : (fs : List AdFrame) (k : ℕ) (x old : AdFrame) → k < length fs → old ≡ get_or fs k old → frame_of x ≡ frame_of old → slice_set (frames_of fs) k (frame_of x) ≡ frames_of fs
+same-set : (fs : List AdFrame) (k : ℕ) (x old : AdFrame) → k < length fs → old ≡ get_or fs k old → frame_of x ≡ frame_of old
+    → slice_set (frames_of fs) k (frame_of x) ≡ frames_of fs
 same-set [] k x old h e d = absurd (omega (arith, h))
 same-set (g ∷ gs) zero x old h e d = ap (λ f. f ∷ frames_of gs) (d ∙ ap frame_of e)
 same-set (g ∷ gs) (suc k) x old h e d = ap (λ hs. frame_of g ∷ hs) (same-set gs k x old (omega (arith, h)) e d)

@@ -27,7 +27,8 @@ module _ (fs : List Frame) (apart : (f : ℕ) → IsTrue (are_apart (names_in fs
       ∙ settled_frame-frames 0 0 (spelled fs) (inside-apart fs apart (length fs) 0)
 
   -- behind whatever root
-  pub finished_phrase : (t : Tree) {copy : Tree} {root : Frame} {before after : List Frame} → before ≡ root ∷ [] → IsPlaced 0 (inlined (inside fs n) t) copy before after
+  pub finished_phrase : (t : Tree) {copy : Tree} {root : Frame} {before after : List Frame} → before ≡ root ∷ []
+      → IsPlaced 0 (inlined (inside fs n) t) copy before after
       → after ≡ root ∷ frames 0 1 (spelled_tree fs t)
   finished_phrase t {copy} {root} {before} {after} new placed =
       placed.opened
@@ -35,7 +36,8 @@ module _ (fs : List Frame) (apart : (f : ℕ) → IsTrue (are_apart (names_in fs
       ∙ ap (λ m. root ∷ map settled_frame (frames 0 1 (inlined (inside fs m) t))) all
       ∙ ap (λ gs. root ∷ gs) (settled_frame-frames 0 1 (spelled_tree fs t) (spelled_tree-apart fs apart t))
 
-  pub phrase_tree : (t : Tree) {copy : Tree} {root : Frame} {before after : List Frame} → before ≡ root ∷ [] → IsPlaced 0 (inlined (inside fs n) t) copy before after
+  pub phrase_tree : (t : Tree) {copy : Tree} {root : Frame} {before after : List Frame} → before ≡ root ∷ []
+      → IsPlaced 0 (inlined (inside fs n) t) copy before after
       → copy ≡ number 1 (spelled_tree fs t)
   phrase_tree t new placed =
       placed.copied

@@ -3,7 +3,8 @@ use Rattle.std.proofs.Common.{refl, arith, ◌≡◌, ℕ, suc, ◌+◌, List, [
 use Rattle.std.proofs.lemmas.List.{append-nil}
 use Rattle.ad_tree.specs.Tree.{Tree, node, frame, Trees, none, more, pack}
 use Rattle.ad_tree.specs.Frames.{names_of}
-use Rattle.ad_tree.specs.Inline.{Inline, shape, inner, Inlines, end, next, Defs, no_defs, def, count, count_all, count_defs, number, number_all, attributes_from, frames, frames_all, frames_in, inlined, inlined_all, defs_of, def_names, is_apart, all_apart, defs_apart}
+use Rattle.ad_tree.specs.Inline.{Inline, shape, inner, Inlines, end, next, Defs, no_defs, def, count, count_all, count_defs, number, number_all}
+use Rattle.ad_tree.specs.Inline.{attributes_from, frames, frames_all, frames_in, inlined, inlined_all, defs_of, def_names, is_apart, all_apart, defs_apart}
 use Rattle.ad_tree.proofs.NameLemmas.{both}
 
 -- a tree opens one frame for each of its ad literals
@@ -15,7 +16,8 @@ mutual
   pub length-frames_all : (p b : ℕ) (is : Inlines) → length (frames_all p b is) ≡ count_all is
   length-frames_all p b end = refl
   length-frames_all p b (next i is) =
-      rw length-append (ap (λ n. n + length (frames_all p (b + count i) is)) (length-frames p b i) ∙ ap (λ n. count i + n) (length-frames_all p (b + count i) is))
+      rw length-append (ap (λ n. n + length (frames_all p (b + count i) is)) (length-frames p b i)
+      ∙ ap (λ n. count i + n) (length-frames_all p (b + count i) is))
 
   pub length-frames_in : (p b : ℕ) (ds : Defs) → length (frames_in p b ds) ≡ count_defs ds
   length-frames_in p b no_defs = refl

@@ -8,7 +8,6 @@ pub mod InlineLemmas
 pub mod Measures
 pub mod NameLemmas
 mod OrderLemmas
-mod PlaceLemmas
 pub mod PlacedLemmas
 pub mod ReadLemmas
 mod SameLemmas

@@ -17,7 +17,8 @@ unfoldable pub levels : ℕ → List Frame → ℕ
 levels turns fs = 4 * (turns * suc (weight fs))
 
 -- an attribute is no larger than its frame, and a frame no larger than all
-pub attributes_size-at : (attributes : List (List ℕ × Tree)) (k : ℕ) (a : List ℕ × Tree) → slice_get attributes k ≡ Some a → size a.1 ≤ attributes_size attributes
+pub attributes_size-at : (attributes : List (List ℕ × Tree)) (k : ℕ) (a : List ℕ × Tree) → slice_get attributes k ≡ Some a
+    → size a.1 ≤ attributes_size attributes
 attributes_size-at [] k a e = absurd (cc)
 attributes_size-at (b ∷ rest) zero a e = let same : b ≡ a = cc in omega (arith, ap (λ c. size c.1) same)
 attributes_size-at (b ∷ rest) (suc k) a e = omega (arith, attributes_size-at rest k a e)

@@ -51,6 +51,7 @@ pub has_name-append : (name : List ℕ) (ns ms : List (List ℕ)) → has_name n
 has_name-append name [] ms = refl
 has_name-append name (n ∷ ns) ms = by (same_name n name) (has_name-append name ns ms)
   where
-    by : (b : Bool) → has_name name (ns ++ ms) ≡ (has_name name ns || has_name name ms) → (b || has_name name (ns ++ ms)) ≡ ((b || has_name name ns) || has_name name ms)
+    by : (b : Bool) → has_name name (ns ++ ms) ≡ (has_name name ns || has_name name ms)
+        → (b || has_name name (ns ++ ms)) ≡ ((b || has_name name ns) || has_name name ms)
     by true e = refl
     by false e = e

@@ -1,5 +1,6 @@
 -- The steps of the walk that finds a draft in order: the frames of the draft stand for their own copies.
-use Rattle.std.proofs.Common.{refl, arith, ◌≡◌, ◌-◌, ℕ, zero, suc, ◌+◌, List, [], ◌∷◌, ◌++◌, length, true, drop, take, ap, sym, ◌∙◌, subst, Option, None, Some, IfSome, IsTrue, slice_get}
+use Rattle.std.proofs.Common.{refl, arith, ◌≡◌, ◌-◌, ℕ, zero, suc, ◌+◌, List, [], ◌∷◌, ◌++◌, length, true, drop, take, ap, sym, ◌∙◌, subst, Option, None, Some}
+use Rattle.std.proofs.Common.{IfSome, IsTrue, slice_get}
 use Rattle.std.proofs.lemmas.List.{take_all, length-take-le}
 use Rattle.std.proofs.lemmas.Option.{slice_get_within}
 use Rattle.ad_tree.specs.Tree.{Tree, frame, pack}
@@ -31,7 +32,8 @@ split-at (y ∷ ys) zero x h = let same : y ≡ x = cc in ap (λ z. z ∷ ys) (s
 split-at (y ∷ ys) (suc j) x h = ap (λ zs. y ∷ zs) (split-at ys j x h)
 
 -- the next of attributes whose names are apart is defined behind the others
-put-next : (attributes : List (List ℕ × Tree)) (j : ℕ) (name : List ℕ) (t : Tree) → are_apart (names_of attributes) ≡ true → slice_get attributes j ≡ Some (name, t)
+put-next : (attributes : List (List ℕ × Tree)) (j : ℕ) (name : List ℕ) (t : Tree) → are_apart (names_of attributes) ≡ true
+    → slice_get attributes j ≡ Some (name, t)
     → take (j + 1) attributes ≡ put_attribute name t (take j attributes)
 put-next attributes j name t apart at =
     take-next attributes j (name, t) at
@@ -45,7 +47,8 @@ pub defs-in_order : {parent p : ℕ} (k : ℕ → Defs) (attributes : List (List
     → IsPlaced p (inlined k t) t between after
     → AreDefinitionsPlaced parent p (defs_of k (take (j + 1) attributes)) (record { parent = parent; attributes = take (j + 1) attributes }) before after
 defs-in_order {parent} k attributes j name t apart at h one =
-    defs-placed k attributes j name t (record { parent = parent; attributes = take j attributes }) (record { parent = parent; attributes = take (j + 1) attributes }) t at
+    defs-placed k attributes j name t (record { parent = parent; attributes = take j attributes })
+    (record { parent = parent; attributes = take (j + 1) attributes }) t at
     (ap (λ as_put. record { parent = parent; attributes = as_put }) (put-next attributes j name t apart at)) h one
 
 -- a frame whose definitions are in order behind it

@@ -3,10 +3,12 @@ use Rattle.std.proofs.Common.{refl, arith, ◌≡◌, ◌≤◌, ℕ, suc, ◌+�
 use Rattle.std.proofs.lemmas.List.{append-nil, map-append, length-map}
 use Rattle.ad_tree.specs.Tree.{Label, Tree, node, frame, Trees, none, more}
 use Rattle.ad_tree.specs.Frames.{Frame, empty_frame, defined_in, defined, put_attribute, put_all, settled_frame}
-use Rattle.ad_tree.specs.Inline.{Inline, shape, inner, Inlines, end, next, Defs, no_defs, count, count_all, count_defs, number, number_all, attributes_from, frames, frames_all, frames_in, inlined, inlined_all}
+use Rattle.ad_tree.specs.Inline.{Inline, shape, inner, Inlines, end, next, Defs, no_defs, count, count_all, count_defs, number, number_all, attributes_from}
+use Rattle.ad_tree.specs.Inline.{frames, frames_all, frames_in, inlined, inlined_all}
 use Rattle.ad_tree.specs.Placed.{IsPlaced, AreAllPlaced, AreDefinitionsPlaced, HasDefined}
 use Rattle.ad_tree.proofs.AttributeLemmas.{put_all-push}
-use Rattle.ad_tree.proofs.InlineLemmas.{length-frames, length-frames_all, length-frames_in, more_last, next_last, def_last, number_all-last, attributes_from-last, frames_all-last, frames_in-last}
+use Rattle.ad_tree.proofs.InlineLemmas.{length-frames, length-frames_all, length-frames_in, more_last, next_last, def_last, number_all-last}
+use Rattle.ad_tree.proofs.InlineLemmas.{attributes_from-last, frames_all-last, frames_in-last}
 
 module _ {p : ℕ} where
   -- how many frames stand after a copy
@@ -18,7 +20,8 @@ module _ {p : ℕ} where
   pub longer-placed : {i : Inline} {t : Tree} {before after : List Frame} → IsPlaced p i t before after → length before ≤ length after
   longer-placed h = omega (arith, length-placed h)
 
-  pub length-all_placed : {is : Inlines} {ts : Trees} {before after : List Frame} → AreAllPlaced p is ts before after → length after ≡ length before + count_all is
+  pub length-all_placed : {is : Inlines} {ts : Trees} {before after : List Frame} → AreAllPlaced p is ts before after
+      → length after ≡ length before + count_all is
   length-all_placed {is} {ts} {before} {after} h =
       ap length h.opened ∙ length-append before (map settled_frame (frames_all p (length before) is))
       ∙ ap (λ n. length before + n) (length-map (frames_all p (length before) is) settled_frame ∙ length-frames_all p (length before) is)
@@ -56,7 +59,8 @@ module _ {p : ℕ} where
   }
 
   -- a node over its trees
-  pub node-placed : (label : Label) {is : Inlines} {ts : Trees} {before after : List Frame} → AreAllPlaced p is ts before after → IsPlaced p (shape label is) (node label ts) before after
+  pub node-placed : (label : Label) {is : Inlines} {ts : Trees} {before after : List Frame} → AreAllPlaced p is ts before after
+      → IsPlaced p (shape label is) (node label ts) before after
   node-placed label h = record { copied = ap (node label) h.copied; opened = h.opened }
 
   -- a leaf
@@ -69,7 +73,8 @@ module _ {p : ℕ} where
 
 module _ {parent p : ℕ} where
   -- no definitions
-  pub length-defs_placed : {ds : Defs} {f : Frame} {before after : List Frame} → AreDefinitionsPlaced parent p ds f before after → length after ≡ length before + count_defs ds
+  pub length-defs_placed : {ds : Defs} {f : Frame} {before after : List Frame} → AreDefinitionsPlaced parent p ds f before after
+      → length after ≡ length before + count_defs ds
   length-defs_placed {ds} {f} {before} {after} h =
       ap length h.opened ∙ length-append before (map settled_frame (frames_in p (length before) ds))
       ∙ ap (λ n. length before + n) (length-map (frames_in p (length before) ds) settled_frame ∙ length-frames_in p (length before) ds)
@@ -105,7 +110,8 @@ own-placed {ds} {f} {before} {after} h = record {
   opened = h.opened
       ∙ append_assoc before (f ∷ []) (map settled_frame (frames_in (length before) (length (before ++ f ∷ [])) ds))
       ∙ ap (λ g. before ++ g ∷ map settled_frame (frames_in (length before) (length (before ++ f ∷ [])) ds)) h.copied
-      ∙ ap (λ n. before ++ settled_frame (record { parent = f.parent; attributes = attributes_from n ds }) ∷ map settled_frame (frames_in (length before) n ds)) longer;
+      ∙ ap (λ n. before ++ settled_frame (record { parent = f.parent; attributes = attributes_from n ds }) ∷ map settled_frame (frames_in (length before) n ds))
+      longer;
 }
   where
     longer : length (before ++ f ∷ []) ≡ suc (length before)
@@ -114,7 +120,8 @@ own-placed {ds} {f} {before} {after} h = record {
 -- ---- a draft whose frames are defined one after another ----
 
 -- a definition in the frame behind those that were there
-defined-behind : (before after : List Frame) (f : Frame) (name : List ℕ) (t : Tree) → defined (before ++ f ∷ after) (length before) name t ≡ before ++ defined_in f name t ∷ after
+defined-behind : (before after : List Frame) (f : Frame) (name : List ℕ) (t : Tree)
+    → defined (before ++ f ∷ after) (length before) name t ≡ before ++ defined_in f name t ∷ after
 defined-behind [] after f name t = refl
 defined-behind (b ∷ bs) after f name t = ap (λ fs. b ∷ fs) (defined-behind bs after f name t)
 
@@ -127,7 +134,8 @@ length-defined : {parent : ℕ} {ds : Defs} {before after : List Frame} → HasD
 length-defined {parent} {ds} {before} {after} h =
     let own : Frame = settled_frame (record { parent = parent; attributes = attributes_from (suc (length before)) ds }) in
     let rest : List Frame = map settled_frame (frames_in (length before) (suc (length before)) ds) in
-    let many : length rest ≡ count_defs ds = length-map (frames_in (length before) (suc (length before)) ds) settled_frame ∙ length-frames_in (length before) (suc (length before)) ds in
+    let many : length rest ≡ count_defs ds =
+    length-map (frames_in (length before) (suc (length before)) ds) settled_frame ∙ length-frames_in (length before) (suc (length before)) ds in
     omega (arith, ap length h.defined, length-append before (own ∷ rest), many)
 
 -- one definition more, once its expression is placed
@@ -158,7 +166,8 @@ next-defined {parent} {ds} name {i} {t} {before} {between} {placed} {after} h k 
     }
 
 -- a frame that has all its definitions is placed
-pub defined-placed : {parent : ℕ} {ds : Defs} {before after : List Frame} → HasDefined parent ds before after → IsPlaced parent (inner ds) (frame (length before)) before after
+pub defined-placed : {parent : ℕ} {ds : Defs} {before after : List Frame} → HasDefined parent ds before after
+    → IsPlaced parent (inner ds) (frame (length before)) before after
 defined-placed h = record { copied = refl; opened = h.defined }
 
 -- an expression that was read as a node, and whose copy is made as one

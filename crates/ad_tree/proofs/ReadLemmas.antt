@@ -9,8 +9,10 @@ use Rattle.ad_tree.specs.declared.tree.Expr.{Expr}
 use Rattle.ad_tree.specs.declared.tree.Exprs.{Exprs}
 use Rattle.ad_tree.specs.declared.tree.Scope.{Scope}
 use Rattle.ad_tree.specs.declared.tree.Expr.TheVariants as expr
-use Rattle.ad_tree.specs.Tree.{none, literal, name, Label, Tree, Trees, tree, trees, node, pack, unary, binary, all, any, choice, select, subscript, call, list, one, two, three}
-use Rattle.ad_tree.proofs.TreeLemmas.{tree-Literal, tree-Name, tree-Unary, tree-Binary, tree-And, tree-Or, tree-Cond, tree-Select, tree-Subscript, tree-Call, tree-List}
+use Rattle.ad_tree.specs.Tree.{none, literal, name, Label, Tree, Trees, tree, trees, node, pack, unary, binary, all, any, choice, select, subscript, call, list}
+use Rattle.ad_tree.specs.Tree.{one, two, three}
+use Rattle.ad_tree.proofs.TreeLemmas.{tree-Literal, tree-Name, tree-Unary, tree-Binary, tree-And, tree-Or, tree-Cond, tree-Select, tree-Subscript, tree-Call}
+use Rattle.ad_tree.proofs.TreeLemmas.{tree-List}
 
 pub read-Unary : (op : UnOp) (a : Box Expr Global) {e x : Expr} → e ≡ expr.Unary op a → x ≡ a.value → tree e ≡ node (unary op) (one (tree x))
 read-Unary op a is x_is = ap tree is ∙ tree-Unary op a ∙ ap (λ (x : Expr). node (unary op) (one (tree x))) (sym x_is)
@@ -18,13 +20,15 @@ read-Unary op a is x_is = ap tree is ∙ tree-Unary op a ∙ ap (λ (x : Expr). 
 pub read-Select : (a : Box Expr Global) (text : List ℕ) {e x : Expr} → e ≡ expr.Select a text → x ≡ a.value → tree e ≡ node (select text) (one (tree x))
 read-Select a text is x_is = ap tree is ∙ tree-Select a text ∙ ap (λ (x : Expr). node (select text) (one (tree x))) (sym x_is)
 
-pub read-Binary : (op : BinOp) (a b : Box Expr Global) {e x y : Expr} → e ≡ expr.Binary op a b → x ≡ a.value → y ≡ b.value → tree e ≡ node (binary op) (two (tree x) (tree y))
+pub read-Binary : (op : BinOp) (a b : Box Expr Global) {e x y : Expr} → e ≡ expr.Binary op a b → x ≡ a.value → y ≡ b.value
+    → tree e ≡ node (binary op) (two (tree x) (tree y))
 read-Binary op a b {e} {x} {y} is x_is y_is =
     ap tree is ∙ tree-Binary op a b
     ∙ ap (λ (x : Expr). node (binary op) (two (tree x) (tree b.value))) (sym x_is)
     ∙ ap (λ (y : Expr). node (binary op) (two (tree x) (tree y))) (sym y_is)
 
-pub read-Subscript : (a b : Box Expr Global) {e x y : Expr} → e ≡ expr.Subscript a b → x ≡ a.value → y ≡ b.value → tree e ≡ node subscript (two (tree x) (tree y))
+pub read-Subscript : (a b : Box Expr Global) {e x y : Expr} → e ≡ expr.Subscript a b → x ≡ a.value → y ≡ b.value
+    → tree e ≡ node subscript (two (tree x) (tree y))
 read-Subscript a b {e} {x} {y} is x_is y_is =
     ap tree is ∙ tree-Subscript a b
     ∙ ap (λ (x : Expr). node subscript (two (tree x) (tree b.value))) (sym x_is)

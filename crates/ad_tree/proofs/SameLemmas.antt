@@ -1,7 +1,6 @@
--- Two lists, two nodes and two ads, compared part by part.
-use Rattle.std.proofs.Common.{◌≡◌, ◌<◌, ◌+◌, ℕ, zero, suc, Bool, List, [], ◌∷◌, ◌++◌, slice_get, take, Option, None, Some, refl, ap, sym, ◌∙◌, add-one}
+-- Two lists and two nodes, compared part by part.
+use Rattle.std.proofs.Common.{◌≡◌, ◌+◌, ℕ, zero, suc, Bool, List, [], ◌∷◌, ◌++◌, slice_get, take, Option, None, Some, refl, ap, sym, ◌∙◌, add-one}
 use Rattle.std.specs.Prelude.{◌↔◌, IsTrue, option_map}
-use Rattle.ad_tree.specs.Frames.{Frame, attributes_at, parent_of}
 use Rattle.ad_tree.specs.Tree.{Label, Tree, node, pack}
 
 -- ---- lists
@@ -13,12 +12,14 @@ take-at (y ∷ z ∷ ys) zero x e = let same : y ≡ x = cc in ap (λ z. z ∷ [
 take-at (y ∷ ys) (suc k) x e = ap (λ l. y ∷ l) (take-at ys k x e)
 
 -- two lists that are the same up to a place and there are the same up to the next
-pub same-more : {A : Type 0} (xs ys : List A) (k : ℕ) (x y : A) → take k xs ≡ take k ys → slice_get xs k ≡ Some x → slice_get ys k ≡ Some y → x ≡ y → take (k + 1) xs ≡ take (k + 1) ys
+pub same-more : {A : Type 0} (xs ys : List A) (k : ℕ) (x y : A) → take k xs ≡ take k ys → slice_get xs k ≡ Some x → slice_get ys k ≡ Some y → x ≡ y
+    → take (k + 1) xs ≡ take (k + 1) ys
 same-more xs ys k x y so_far here there same =
     rw (add-one k) (take-at xs k x here ∙ ap (λ l. l ++ x ∷ []) so_far ∙ ap (λ z. take k ys ++ z ∷ []) same ∙ sym (take-at ys k y there))
 
 -- an attribute by its two parts
-pub attribute-at : (attributes : List (List ℕ × Tree)) (k : ℕ) (name : List ℕ) (t : Tree) → option_map (λ a. a.0) (slice_get attributes k) ≡ Some name → option_map (λ a. a.1) (slice_get attributes k) ≡ Some t → slice_get attributes k ≡ Some (name, t)
+pub attribute-at : (attributes : List (List ℕ × Tree)) (k : ℕ) (name : List ℕ) (t : Tree) → option_map (λ a. a.0) (slice_get attributes k) ≡ Some name
+    → option_map (λ a. a.1) (slice_get attributes k) ≡ Some t → slice_get attributes k ≡ Some (name, t)
 attribute-at attributes k name t named is = by (slice_get attributes k) named is
   where
     by : (o : Option (List ℕ × Tree)) → option_map (λ a. a.0) o ≡ Some name → option_map (λ a. a.1) o ≡ Some t → o ≡ Some (name, t)
@@ -51,14 +52,3 @@ pack-same (t ∷ ts) (u ∷ us) same =
 pub same-nodes : (label : Label) (ts us : List Tree) (answer : Bool) → IsTrue answer ↔ (ts ≡ us) → IsTrue answer ↔ (node label (pack ts) ≡ node label (pack us))
 same-nodes label ts us answer same =
     (λ yes. ap (λ (l : List Tree). node label (pack l)) (same.0 yes), λ nodes. same.1 (pack-same ts us (cc)))
-
--- ---- ads
-
--- a frame of two ads has the same attributes and the same parent
-pub record IsSameFrame (a b : List Frame) (f : ℕ) : Type 0 where
-  pub attributes : attributes_at a f ≡ attributes_at b f
-  pub parent : parent_of a f ≡ parent_of b f
-
--- so has each below a number
-abbrev pub AreAlikeBelow : List Frame → List Frame → ℕ → Type 0
-AreAlikeBelow a b n = (f : ℕ) → f < n → IsSameFrame a b f

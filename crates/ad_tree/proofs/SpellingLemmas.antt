@@ -1,10 +1,14 @@
 -- Frames and spelled trees are two views of one thing: what is numbered is spelled back.
-use Rattle.std.proofs.Common.{refl, arith, ◌≡◌, ◌≤◌, ℕ, zero, suc, ◌+◌, List, [], ◌∷◌, ◌++◌, length, map, Bool, true, false, ap, sym, ◌∙◌, subst, cond, append_assoc, length-append, Some, slice_get}
+use Rattle.std.proofs.Common.{refl, arith, ◌≡◌, ◌≤◌, ℕ, zero, suc, ◌+◌, List, [], ◌∷◌, ◌++◌, length, map, Bool, true, false, ap, sym, ◌∙◌, subst, cond}
+use Rattle.std.proofs.Common.{append_assoc, length-append, Some, slice_get}
 use Rattle.std.proofs.lemmas.List.{length-map, map-append}
 use Rattle.ad_tree.specs.Tree.{Tree}
 use Rattle.ad_tree.specs.Names.{same_name, are_apart}
 use Rattle.ad_tree.specs.Frames.{Frame, empty_frame, attributes_in, put_attribute, put_all, settled_frame}
-use Rattle.ad_tree.specs.Inline.{Inline, shape, inner, Inlines, end, next, Defs, no_defs, def, count, count_all, count_defs, number, number_all, attributes_from, frames, frames_all, frames_in, inlined, inlined_all, defs_of, inside, spelled, spelled_tree, put, settled, settled_all, settled_defs, ad_of, phrase_of, phrase_tree, literals, literals_all, literals_in, is_apart, all_apart, defs_apart, def_names}
+use Rattle.ad_tree.specs.Inline.{Inline, shape, inner, Inlines, end, next, Defs, no_defs, def, count, count_all, count_defs, number, number_all}
+use Rattle.ad_tree.specs.Inline.{attributes_from, frames, frames_all, frames_in, inlined, inlined_all, defs_of, inside, spelled, spelled_tree, put, settled}
+use Rattle.ad_tree.specs.Inline.{settled_all, settled_defs, ad_of, phrase_of, phrase_tree, literals, literals_all, literals_in, is_apart, all_apart, defs_apart}
+use Rattle.ad_tree.specs.Inline.{def_names}
 use Rattle.ad_tree.proofs.NameLemmas.{both_left, both_right, both}
 use Rattle.ad_tree.proofs.AttributeLemmas.{names-put, apart-put_name, put_all-apart}
 use Rattle.ad_tree.proofs.InlineLemmas.{length-frames, names-attributes_from}
@@ -38,19 +42,22 @@ pub Stand-behind : (h : Frame → Frame) (before gs : List Frame) → Stand h (b
 Stand-behind h before [] = tt
 Stand-behind h before (g ∷ gs) = (
   slice_get-behind before (map h gs) (h g),
-  subst (λ n. Stand h (before ++ h g ∷ map h gs) n gs) longer (subst (λ fs. Stand h fs (length (before ++ h g ∷ [])) gs) (append_assoc before (h g ∷ []) (map h gs)) (Stand-behind h (before ++ h g ∷ []) gs)),
+  subst (λ n. Stand h (before ++ h g ∷ map h gs) n gs) longer
+      (subst (λ fs. Stand h fs (length (before ++ h g ∷ [])) gs) (append_assoc before (h g ∷ []) (map h gs)) (Stand-behind h (before ++ h g ∷ []) gs)),
 )
   where
     longer : length (before ++ h g ∷ []) ≡ suc (length before)
     longer = omega (arith, length-append before (h g ∷ []))
 
 -- a definition is put among attributes as among definitions
-pub defs_of-put : (k : ℕ → Defs) (name : List ℕ) (t : Tree) (attributes : List (List ℕ × Tree)) → defs_of k (put_attribute name t attributes) ≡ put name (inlined k t) (defs_of k attributes)
+pub defs_of-put : (k : ℕ → Defs) (name : List ℕ) (t : Tree) (attributes : List (List ℕ × Tree))
+    → defs_of k (put_attribute name t attributes) ≡ put name (inlined k t) (defs_of k attributes)
 defs_of-put k name t [] = refl
 defs_of-put k name t (a ∷ rest) = by (same_name name a.0) (defs_of-put k name t rest)
   where
     by : (b : Bool) → defs_of k (put_attribute name t rest) ≡ put name (inlined k t) (defs_of k rest)
-        → defs_of k (cond b ((name, t) ∷ rest) (a ∷ put_attribute name t rest)) ≡ cond b (def name (inlined k t) (defs_of k rest)) (def a.0 (inlined k a.1) (put name (inlined k t) (defs_of k rest)))
+        → defs_of k (cond b ((name, t) ∷ rest) (a ∷ put_attribute name t rest))
+        ≡ cond b (def name (inlined k t) (defs_of k rest)) (def a.0 (inlined k a.1) (put name (inlined k t) (defs_of k rest)))
     by true e = refl
     by false e = ap (def a.0 (inlined k a.1)) e
 
@@ -64,20 +71,23 @@ module _ (fs : List Frame) where
         ap (λ attributes. inner (defs_of (inside fs n) attributes)) (ap attributes_in s.0)
         ∙ ap inner (spelled-attributes n b (suc b) ds [] (omega (arith, enough)) s.1)
 
-    pub spelled-number_all : (n p b : ℕ) (is : Inlines) → count_all is ≤ n → Stand settled_frame fs b (frames_all p b is) → inlined_all (inside fs n) (number_all b is) ≡ settled_all is
+    pub spelled-number_all : (n p b : ℕ) (is : Inlines) → count_all is ≤ n → Stand settled_frame fs b (frames_all p b is)
+        → inlined_all (inside fs n) (number_all b is) ≡ settled_all is
     spelled-number_all n p b end enough s = refl
     spelled-number_all n p b (next i is) enough s =
         ap (λ j. next j (inlined_all (inside fs n) (number_all (b + count i) is)))
         (spelled-number n p b i (omega (arith, enough)) (Stand-left settled_frame fs b (frames p b i) (frames_all p (b + count i) is) s))
         ∙ ap (next (settled i)) (spelled-number_all n p (b + count i) is (omega (arith, enough))
-        (subst (λ m. Stand settled_frame fs (b + m) (frames_all p (b + count i) is)) (length-frames p b i) (Stand-right settled_frame fs b (frames p b i) (frames_all p (b + count i) is) s)))
+        (subst (λ m. Stand settled_frame fs (b + m) (frames_all p (b + count i) is)) (length-frames p b i)
+        (Stand-right settled_frame fs b (frames p b i) (frames_all p (b + count i) is) s)))
 
     pub spelled-attributes : (n p b : ℕ) (ds : Defs) (done : List (List ℕ × Tree)) → count_defs ds ≤ n → Stand settled_frame fs b (frames_in p b ds)
         → defs_of (inside fs n) (put_all done (attributes_from b ds)) ≡ settled_defs (defs_of (inside fs n) done) ds
     spelled-attributes n p b no_defs done enough s = refl
     spelled-attributes n p b (def name i ds) done enough s =
         spelled-attributes n p (b + count i) ds (put_attribute name (number b i) done) (omega (arith, enough))
-        (subst (λ m. Stand settled_frame fs (b + m) (frames_in p (b + count i) ds)) (length-frames p b i) (Stand-right settled_frame fs b (frames p b i) (frames_in p (b + count i) ds) s))
+        (subst (λ m. Stand settled_frame fs (b + m) (frames_in p (b + count i) ds)) (length-frames p b i)
+        (Stand-right settled_frame fs b (frames p b i) (frames_in p (b + count i) ds) s))
         ∙ ap (λ before. settled_defs before ds) (defs_of-put (inside fs n) name (number b i) done
         ∙ ap (λ j. put name j (defs_of (inside fs n) done))
         (spelled-number n p b i (omega (arith, enough)) (Stand-left settled_frame fs b (frames p b i) (frames_in p (b + count i) ds) s)))
@@ -95,21 +105,25 @@ module _ (fs : List Frame) where
         ap (λ attributes. inner (defs_of (inside fs n) attributes)) (ap attributes_in s.0)
         ∙ ap inner (plain-attributes n b (suc b) ds (omega (arith, enough)) s.1)
 
-    pub plain-number_all : (n p b : ℕ) (is : Inlines) → count_all is ≤ n → Stand as_it_is fs b (frames_all p b is) → inlined_all (inside fs n) (number_all b is) ≡ is
+    pub plain-number_all : (n p b : ℕ) (is : Inlines) → count_all is ≤ n → Stand as_it_is fs b (frames_all p b is)
+        → inlined_all (inside fs n) (number_all b is) ≡ is
     plain-number_all n p b end enough s = refl
     plain-number_all n p b (next i is) enough s =
         ap (λ j. next j (inlined_all (inside fs n) (number_all (b + count i) is)))
         (plain-number n p b i (omega (arith, enough)) (Stand-left as_it_is fs b (frames p b i) (frames_all p (b + count i) is) s))
         ∙ ap (next i) (plain-number_all n p (b + count i) is (omega (arith, enough))
-        (subst (λ m. Stand as_it_is fs (b + m) (frames_all p (b + count i) is)) (length-frames p b i) (Stand-right as_it_is fs b (frames p b i) (frames_all p (b + count i) is) s)))
+        (subst (λ m. Stand as_it_is fs (b + m) (frames_all p (b + count i) is)) (length-frames p b i)
+        (Stand-right as_it_is fs b (frames p b i) (frames_all p (b + count i) is) s)))
 
-    pub plain-attributes : (n p b : ℕ) (ds : Defs) → count_defs ds ≤ n → Stand as_it_is fs b (frames_in p b ds) → defs_of (inside fs n) (attributes_from b ds) ≡ ds
+    pub plain-attributes : (n p b : ℕ) (ds : Defs) → count_defs ds ≤ n → Stand as_it_is fs b (frames_in p b ds)
+        → defs_of (inside fs n) (attributes_from b ds) ≡ ds
     plain-attributes n p b no_defs enough s = refl
     plain-attributes n p b (def name i ds) enough s =
         ap (λ j. def name j (defs_of (inside fs n) (attributes_from (b + count i) ds)))
         (plain-number n p b i (omega (arith, enough)) (Stand-left as_it_is fs b (frames p b i) (frames_in p (b + count i) ds) s))
         ∙ ap (def name i) (plain-attributes n p (b + count i) ds (omega (arith, enough))
-        (subst (λ m. Stand as_it_is fs (b + m) (frames_in p (b + count i) ds)) (length-frames p b i) (Stand-right as_it_is fs b (frames p b i) (frames_in p (b + count i) ds) s)))
+        (subst (λ m. Stand as_it_is fs (b + m) (frames_in p (b + count i) ds)) (length-frames p b i)
+        (Stand-right as_it_is fs b (frames p b i) (frames_in p (b + count i) ds) s)))
 
 pub map-as_it_is : (fs : List Frame) → map as_it_is fs ≡ fs
 map-as_it_is [] = refl
@@ -139,7 +153,8 @@ pub spelled_tree-frames : (i : Inline) → spelled_tree (empty_frame 0 ∷ frame
 spelled_tree-frames i =
     plain-number (empty_frame 0 ∷ frames 0 1 i) (length (empty_frame 0 ∷ frames 0 1 i)) 0 1 i
     (omega (arith, length-frames 0 1 i))
-    (subst (λ fs. Stand as_it_is (empty_frame 0 ∷ fs) 1 (frames 0 1 i)) (map-as_it_is (frames 0 1 i)) (Stand-behind as_it_is (empty_frame 0 ∷ []) (frames 0 1 i)))
+    (subst (λ fs. Stand as_it_is (empty_frame 0 ∷ fs) 1 (frames 0 1 i)) (map-as_it_is (frames 0 1 i))
+    (Stand-behind as_it_is (empty_frame 0 ∷ []) (frames 0 1 i)))
 
 -- so a draft that was filled by defining name by name is finished as the ad of the spelled tree
 pub ad_of-finished : (ds : Defs) {fs : List Frame} → fs ≡ map settled_frame (frames 0 0 (inner ds)) → frames 0 0 (spelled fs) ≡ ad_of (inner ds)
@@ -210,7 +225,8 @@ module _ (fs : List Frame) (n : ℕ) where
         (literals-stand p b i (omega (arith, enough)) (Stand-left as_it_is fs b (frames p b i) (frames_all p (b + count i) is) s))
         (subst (λ m. AllStand fs n (b + m) (literals_all is)) (sym (length-literals i))
         (literals_all-stand p (b + count i) is (omega (arith, enough))
-        (subst (λ m. Stand as_it_is fs (b + m) (frames_all p (b + count i) is)) (length-frames p b i) (Stand-right as_it_is fs b (frames p b i) (frames_all p (b + count i) is) s))))
+        (subst (λ m. Stand as_it_is fs (b + m) (frames_all p (b + count i) is)) (length-frames p b i)
+        (Stand-right as_it_is fs b (frames p b i) (frames_all p (b + count i) is) s))))
 
     literals_in-stand : (p b : ℕ) (ds : Defs) → count_defs ds ≤ n → Stand as_it_is fs b (frames_in p b ds) → AllStand fs n b (literals_in ds)
     literals_in-stand p b no_defs enough s = tt
@@ -219,7 +235,8 @@ module _ (fs : List Frame) (n : ℕ) where
         (literals-stand p b i (omega (arith, enough)) (Stand-left as_it_is fs b (frames p b i) (frames_in p (b + count i) ds) s))
         (subst (λ m. AllStand fs n (b + m) (literals_in ds)) (sym (length-literals i))
         (literals_in-stand p (b + count i) ds (omega (arith, enough))
-        (subst (λ m. Stand as_it_is fs (b + m) (frames_in p (b + count i) ds)) (length-frames p b i) (Stand-right as_it_is fs b (frames p b i) (frames_in p (b + count i) ds) s))))
+        (subst (λ m. Stand as_it_is fs (b + m) (frames_in p (b + count i) ds)) (length-frames p b i)
+        (Stand-right as_it_is fs b (frames p b i) (frames_in p (b + count i) ds) s))))
 
 -- frame k is the ad literal with the opening bracket k, counted from 0
 pub inside-literals : (ds : Defs) (k : ℕ) (es : Defs) → slice_get (literals (inner ds)) k ≡ Some es
@@ -242,7 +259,8 @@ inside-phrase_literals i k es e =
     ap (inside fs (length fs)) (one_on k)
     ∙ AllStand-at fs (length fs) 1 (literals i) k es
     (literals-stand fs (length fs) 0 1 i (omega (arith, length-frames 0 1 i))
-    (subst (λ gs. Stand as_it_is (empty_frame 0 ∷ gs) 1 (frames 0 1 i)) (map-as_it_is (frames 0 1 i)) (Stand-behind as_it_is (empty_frame 0 ∷ []) (frames 0 1 i)))) e
+    (subst (λ gs. Stand as_it_is (empty_frame 0 ∷ gs) 1 (frames 0 1 i)) (map-as_it_is (frames 0 1 i))
+    (Stand-behind as_it_is (empty_frame 0 ∷ []) (frames 0 1 i)))) e
   where
     one_on : (m : ℕ) → suc m ≡ 1 + m
     one_on m = omega arith

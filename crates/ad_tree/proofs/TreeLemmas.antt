@@ -9,7 +9,8 @@ use Rattle.ad_tree.specs.declared.tree.Expr.{Expr, fold-roll-Expr}
 use Rattle.ad_tree.specs.declared.tree.Expr.TheVariants as expr
 use Rattle.ad_tree.specs.declared.tree.Scope.{Scope}
 use Rattle.ad_tree.specs.declared.tree.Exprs.{Exprs, fold_out-Exprs}
-use Rattle.ad_tree.specs.Tree.{literal, name, unary, binary, all, any, choice, select, subscript, call, list, one, two, three, Tree, node, frame, none, more, tree, trees, layer, pack, size, size_all, height_of, highest_of}
+use Rattle.ad_tree.specs.Tree.{literal, name, unary, binary, all, any, choice, select, subscript, call, list, one, two, three, Tree, node, frame, none, more}
+use Rattle.ad_tree.specs.Tree.{tree, trees, layer, pack, size, size_all, height_of, highest_of}
 
 -- a list of expressions is seen item by item
 pub trees-items : (l : Exprs) → trees l ≡ map tree l.items.items

@@ -1,5 +1,6 @@
 -- The steps of the walk that copies a draft into an ad.
-use Rattle.std.proofs.Common.{refl, arith, ◌≡◌, ◌-◌, ℕ, zero, suc, ◌+◌, List, [], ◌∷◌, ◌++◌, length, take, ap, sym, ◌∙◌, subst, None, Some, slice_get, add-one, ◌<◌, length-append}
+use Rattle.std.proofs.Common.{refl, arith, ◌≡◌, ◌-◌, ℕ, zero, suc, ◌+◌, List, [], ◌∷◌, ◌++◌, length, take, ap, sym, ◌∙◌, subst, None, Some, slice_get, add-one}
+use Rattle.std.proofs.Common.{◌<◌, length-append}
 use Rattle.ad_tree.specs.Tree.{Tree, frame, pack}
 use Rattle.ad_tree.specs.Frames.{Frame, empty_frame, attributes_in, defined, defined_in}
 use Rattle.ad_tree.specs.Inline.{inner, Defs, no_defs, inlined, inlined_all, defs_of, inside, opened}
@@ -29,7 +30,8 @@ list-placed {p} k ts j t us vs copy {before} {between} {after} at push h one =
     (last-placed h one))
 
 -- one definition of a frame more is placed
-pub defs-placed : {parent p : ℕ} (k : ℕ → Defs) (attributes : List (List ℕ × Tree)) (j : ℕ) (name : List ℕ) (t : Tree) (f g : Frame) (copy : Tree) {before between after : List Frame}
+pub defs-placed : {parent p : ℕ} (k : ℕ → Defs) (attributes : List (List ℕ × Tree)) (j : ℕ) (name : List ℕ) (t : Tree) (f g : Frame) (copy : Tree)
+    {before between after : List Frame}
     → slice_get attributes j ≡ Some (name, t) → g ≡ defined_in f name copy
     → AreDefinitionsPlaced parent p (defs_of k (take j attributes)) f before between → IsPlaced p (inlined k t) copy between after
     → AreDefinitionsPlaced parent p (defs_of k (take (j + 1) attributes)) g before after
@@ -41,7 +43,8 @@ defs-placed {parent} {p} k attributes j name t f g copy {before} {between} {afte
     (def-placed name h one))
 
 -- what stands in a frame that is opened with turns left
-pub inside-turn : (fs : List Frame) (turns f : ℕ) (source : Frame) → (turns ≡ 0 → ⊥) → Some source ≡ slice_get fs f → inside fs turns f ≡ defs_of (inside fs (turns - 1)) source.attributes
+pub inside-turn : (fs : List Frame) (turns f : ℕ) (source : Frame) → (turns ≡ 0 → ⊥) → Some source ≡ slice_get fs f
+    → inside fs turns f ≡ defs_of (inside fs (turns - 1)) source.attributes
 inside-turn fs zero f source n h = absurd (n refl)
 inside-turn fs (suc turns) f source n h =
     ap (λ o. defs_of (inside fs turns) (attributes_in o)) (sym h)
@@ -73,11 +76,13 @@ closed-placed parent n fs turns f {before} {after} at none push =
     (subst (λ gs. IsPlaced parent (inner no_defs) (frame (length before)) before gs) (sym push) (empty-placed parent before)))
 
 -- a new frame is within the frames
-pub new-within : (parent : ℕ) (before : List Frame) {n : ℕ} {after : List Frame} → n ≡ length before → after ≡ before ++ empty_frame parent ∷ [] → n < length after
+pub new-within : (parent : ℕ) (before : List Frame) {n : ℕ} {after : List Frame} → n ≡ length before → after ≡ before ++ empty_frame parent ∷ []
+    → n < length after
 new-within parent before {n} {after} at push = omega (arith, at, ap length push, length-append before (empty_frame parent ∷ []))
 
 -- one definition of a frame more is made
-pub defs-defined : {parent : ℕ} (k : ℕ → Defs) (attributes : List (List ℕ × Tree)) (j : ℕ) (name : List ℕ) (t copy : Tree) (n : ℕ) {before between placed after : List Frame}
+pub defs-defined : {parent : ℕ} (k : ℕ → Defs) (attributes : List (List ℕ × Tree)) (j : ℕ) (name : List ℕ) (t copy : Tree) (n : ℕ)
+    {before between placed after : List Frame}
     → n ≡ length before → slice_get attributes j ≡ Some (name, t)
     → HasDefined parent (defs_of k (take j attributes)) before between → IsPlaced n (inlined k t) copy between placed → after ≡ defined placed n name copy
     → HasDefined parent (defs_of k (take (j + 1) attributes)) before after

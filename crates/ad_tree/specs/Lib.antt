@@ -1,16 +1,14 @@
 pub mod Ad
-pub mod Alike
 pub mod Attributes
 pub mod Digests
 pub mod Draft
 pub mod Enclosing
 pub mod Frames
+pub mod Hashers
 pub mod Inline
-pub mod Kept
 pub mod Names
 pub mod Phrases
 pub mod Placed
-pub mod Places
 pub mod Requests
 pub mod Small
 pub mod Special

@@ -7,7 +7,7 @@ use Rattle.ad_tree.specs.Attributes.{attributes_of}
 
 -- a frame
 abbrev pub frame_of : AdFrame → Frame
-frame_of f = record { parent = f.parent; attributes = attributes_of f.attributes }
+frame_of f = record { parent = f.parent; attributes = attributes_of f.attributes.keys }
 
 -- a list of frames
 abbrev pub frames_of : List AdFrame → List Frame

@@ -1,28 +1,12 @@
-// Whether two ads are the same, found with no memory taken.
+// Whether frames and expressions of two ads are the same, found with no memory taken.
 ghost use Rattle.std.specs.Prelude.{◌≡◌, ◌↔◌, ◌<◌, IsTrue, length};
 ghost use Rattle.ad_tree.specs.Ad.{ad_frames};
 ghost use Rattle.ad_tree.specs.Frames.{attributes_at};
 ghost use Rattle.ad_tree.specs.Tree.{tree, trees, two};
-ghost use Rattle.ad_tree.specs.Alike.{AreAlike};
 
 use crate::literal::same_literal;
 use crate::{Ad, Expr, Exprs, scopes_are_equal};
 use pool_text::{same_binary, same_unary};
-
-/// Whether two ads have the same frames, attribute by attribute in their order, each name spelled alike. No memory is taken.
-pub fn are_alike(a: &Ad, b: &Ad) -> bool
-    ensures { IsTrue result ↔ AreAlike (ad_frames a.now) (ad_frames b.now) }
-{
-    if a.frames() != b.frames() {
-        return false;
-    }
-    for frame in 0..a.frames() {
-        if a.parent(frame) != b.parent(frame) || !same_attributes(a, b, frame) {
-            return false;
-        }
-    }
-    true
-}
 
 /// Whether a frame of two ads has the same attributes: as many, in the same order, each name spelled alike. No memory is taken.
 pub fn same_attributes(a: &Ad, b: &Ad, frame: u32) -> bool

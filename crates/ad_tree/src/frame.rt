@@ -1,14 +1,16 @@
 // One frame of an ad or of a draft: its attributes in order, each name once.
 ghost use Rattle.std.specs.Prelude.{◌≡◌, ◌<◌, ◌^◌, [], length, position, slice_get, Some, IfOk, OnOk, OnErr, IsTrue};
-ghost use Rattle.ad_tree.specs.Tree.{tree};
+ghost use Rattle.ad_tree.specs.Tree.{tree, cited};
 ghost use Rattle.ad_tree.specs.Names.{same_name, are_apart};
-ghost use Rattle.ad_tree.specs.Frames.{defined_in, names_of};
+ghost use Rattle.ad_tree.specs.Frames.{defined_in, names_of, put_attribute};
 ghost use Rattle.ad_tree.specs.Attributes.{attributes_of};
 ghost use Rattle.ad_tree.specs.Steady.{MovesNone};
 
 use crate::Expr;
 use crate::attribute::Attribute;
-use crate::attributes::Attributes;
+use crate::hasher::DigestHashers;
+use crate::name_key::NameKey;
+use indexmap::IndexSet;
 use pool_text::{OutOfMemory, Text};
 use std::alloc::Global;
 
@@ -16,9 +18,9 @@ use std::alloc::Global;
 #[derive(Drop)]
 pub struct AdFrame {
     pub parent: u32,
-    attributes: Attributes,
-    ghost apart: { IsTrue (are_apart (names_of (attributes_of attributes))) },
-    ghost few: { length attributes < 2 ^ 32 },
+    attributes: IndexSet<Attribute, DigestHashers>,
+    ghost apart: { IsTrue (are_apart (names_of (attributes_of attributes.keys))) },
+    ghost few: { length attributes.keys < 2 ^ 32 },
 }
 
 impl AdFrame {
@@ -30,7 +32,7 @@ impl AdFrame {
     {
         AdFrame {
             parent,
-            attributes: Attributes::new(alloc),
+            attributes: IndexSet::with_hasher(alloc, DigestHashers),
         }
     }
 
@@ -38,7 +40,8 @@ impl AdFrame {
     pub fn reserve(&mut self, more: usize) -> Result<(), OutOfMemory>
         ensures { frame_of self.new ≡ frame_of self.old }
     {
-        self.attributes.reserve(more)
+        self.attributes.reserve(more)?;
+        Ok(())
     }
 
     /// Gives back the room that it doesn't need.
@@ -50,25 +53,24 @@ impl AdFrame {
 
     /// Defines a name: it keeps its first place, and takes this spelling and this expression. Answers whether no ad literal
     /// is moved or lost by that, as far as is told at a glance.
-    #[inline(always)]
     pub fn define(&mut self, name: Text, expr: Expr) -> Result<bool, OutOfMemory>
         ensures ok { OnOk result (frame_of self.new ≡ defined_in (frame_of self.old) name (tree expr)) }
         ensures err { OnErr result (frame_of self.new ≡ frame_of self.old) }
         ensures steady { IfOk result (λ is_steady. IsTrue is_steady → MovesNone name (tree expr) (frame_of self.old).attributes) }
     {
-        let attribute = Attribute { name, expr };
-        if self.attributes.as_slice().len() >= u32::MAX as usize {
+        let attribute = Attribute::new(name, expr);
+        if self.attributes.len() >= u32::MAX as usize {
             drop(attribute);
             return Err(OutOfMemory);
         }
-        self.attributes.define(attribute)
+        put(&mut self.attributes, attribute)
     }
 
     /// How many attributes there are.
     pub fn count(&self) -> u32
         ensures { result ≡ length (frame_of self.now).attributes }
     {
-        self.attributes.as_slice().len() as u32
+        self.attributes.len() as u32
     }
 
     /// The attribute at a place, counted from 0.
@@ -83,6 +85,43 @@ impl AdFrame {
     pub fn position(&self, name: &[u8]) -> Option<u32>
         ensures { result ≡ position (same_name name.now) (names_of (frame_of self.now).attributes) }
     {
-        self.attributes.position(name).map(|i| i as u32)
+        find(&self.attributes, name).map(|place| place as u32)
     }
+}
+
+// The place of a name in a set.
+#[inline(always)]
+fn find(set: &IndexSet<Attribute, DigestHashers>, name: &[u8]) -> Option<usize>
+    ensures { result ≡ position (same_name name.now) (names_of (attributes_of set.now.keys)) }
+{
+    set.get_index_of(NameKey::new(name))
+}
+
+// Puts an attribute in the place of the one of its name, or behind all. Where one is there, neither has an ad literal if
+// both are leaves. An attribute is large, and an inlined call doesn't move it.
+#[inline(always)]
+fn put(
+    set: &mut IndexSet<Attribute, DigestHashers>,
+    attribute: Attribute,
+) -> Result<bool, OutOfMemory>
+    ensures ok { OnOk result (attributes_of set.new.keys ≡ put_attribute attribute.name (tree attribute.expr) (attributes_of set.old.keys)) }
+    ensures err { OnErr result (set.new.keys ≡ set.old.keys) }
+    ensures steady { IfOk result (λ is_steady. IsTrue is_steady → MovesNone attribute.name (tree attribute.expr) (attributes_of set.old.keys)) }
+{
+    let was_leaf = is_leaf(&attribute.expr);
+    match set.replace(attribute)? {
+        Some(replaced) => {
+            let are_leaves = was_leaf && is_leaf(&replaced.expr);
+            drop(replaced);
+            Ok(are_leaves)
+        }
+        None => Ok(true),
+    }
+}
+
+// Whether an expression is a literal or a name.
+fn is_leaf(expr: &Expr) -> bool
+    ensures { IsTrue result → cited (tree expr.now) ≡ [] }
+{
+    matches!(expr, Expr::Literal(_) | Expr::Name(_, _))
 }

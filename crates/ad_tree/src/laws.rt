@@ -3,7 +3,8 @@ ghost use Rattle.std.specs.Prelude.{◌≡◌, ◌↔◌, ◌<◌, ◌≤◌, �
 ghost use Rattle.ad_tree.specs.Tree.{Tree, pack, size, size_all, height_of, highest_of, trees};
 ghost use Rattle.ad_tree.specs.Frames.{IsAd, attributes_at, cited_in, empty_frame, names_of, put_attribute, settled_frame};
 ghost use Rattle.ad_tree.specs.Names.{has_name, same_name};
-ghost use Rattle.ad_tree.specs.Inline.{Inline, inner, Defs, count, put, inlined, frames, number, literals, inside, defs_of, spelled, spelled_tree, settled, ad_of, phrase_of, phrase_tree, is_apart};
+ghost use Rattle.ad_tree.specs.Inline.{Inline, inner, Defs, count, put, inlined, frames, number, literals, inside, defs_of, spelled, spelled_tree, settled};
+ghost use Rattle.ad_tree.specs.Inline.{ad_of, phrase_of, phrase_tree, is_apart};
 ghost use Rattle.ad_tree.specs.Ad.{ad_frames};
 
 use crate::{Ad, Exprs, Scope};

@@ -4,23 +4,21 @@
 mod ad;
 mod alike;
 mod attribute;
-mod attributes;
 mod draft;
 mod frame;
-mod indexed;
+mod hasher;
 mod laws;
-mod list;
 mod literal;
+mod name_key;
 mod order;
 mod phrase;
-mod places;
 mod placing;
 mod request;
 mod table;
 mod tree;
 
 pub use ad::Ad;
-pub use alike::{are_alike, same_attributes, same_expr};
+pub use alike::{same_attributes, same_expr};
 pub use draft::Draft;
 pub use laws::{
     a_definition_stands_at_its_first_place, ad_is_spelled_level_by_level, ad_is_well_formed,

@@ -1,5 +1,8 @@
 -- `is` is equality of plain values.
-use Rattle.std.proofs.Common.{◌≡◌, ◌≢◌, suc, Bool, true, false, ◌&&◌, ◌==◌, List, [], ◌∷◌, length, refl, ap, arith}
+use Rattle.std.proofs.Common.{◌≡◌, ◌≢◌, ℕ, suc, ◌+◌, Bool, true, false, ◌&&◌, ◌==◌, List, [], ◌∷◌, length, drop, slice_get, Some, refl, sym, ap, ◌∙◌, add-one}
+use Rattle.std.proofs.Common.{arith}
+use Rattle.std.proofs.Math.Seq.{drop-cons}
+use Rattle.std.proofs.lemmas.Option.{slice_get_within, get_or_from_slice_get}
 use Rattle.std.specs.Cmp.{booleans_Decides, signed_Decides}
 use Rattle.std.specs.Cmp.Lexicographic.{bytes_decides}
 use Rattle.std.proofs.lemmas.Bool.Decides.{nat_tests}
@@ -75,3 +78,23 @@ is_same-symmetric a b same = rw (is_same-equal a b same) (is_same-itself b)
 
 pub is_same-transitive : (a b c : Plain) → is_same a b ≡ true → is_same b c ≡ true → is_same a c ≡ true
 is_same-transitive a b c first second = rw (is_same-equal a b first) second
+
+-- what is left of two lists at a place, by the elements there
+module _ (one other : List Plain) (i : ℕ) (a b : Plain) (here : slice_get one i ≡ Some a) (there : slice_get other i ≡ Some b) (whole : Bool)
+    (left : are_same (plains_of (drop i one)) (plains_of (drop i other)) ≡ whole) where
+  drop_at : (ps : List Plain) (p : Plain) → slice_get ps i ≡ Some p → drop i ps ≡ p ∷ drop (i + 1) ps
+  drop_at ps p found =
+      let within = slice_get_within ps i p found in
+      rw add-one (drop-cons ps i p within ∙ ap (λ q. q ∷ drop (suc i) ps) (get_or_from_slice_get ps i p p found))
+
+  by_elements : (is_same a b && are_same (plains_of (drop (i + 1) one)) (plains_of (drop (i + 1) other))) ≡ whole
+  by_elements =
+      sym (ap (λ l. are_same (plains_of l) (plains_of (drop i other))) (drop_at one a here)
+      ∙ ap (λ l. are_same (plains_of (a ∷ drop (i + 1) one)) (plains_of l)) (drop_at other b there))
+      ∙ left
+
+  pub are_same-differ : is_same a b ≡ false → false ≡ whole
+  are_same-differ differ = sym (ap (λ t. t && are_same (plains_of (drop (i + 1) one)) (plains_of (drop (i + 1) other))) differ) ∙ by_elements
+
+  pub are_same-more : is_same a b ≡ true → are_same (plains_of (drop (i + 1) one)) (plains_of (drop (i + 1) other)) ≡ whole
+  are_same-more same = sym (ap (λ t. t && are_same (plains_of (drop (i + 1) one)) (plains_of (drop (i + 1) other))) same) ∙ by_elements

@@ -1,5 +1,5 @@
--- Elements weigh no more than their list, so that a walk down a value may count what is left by weight.
-use Rattle.std.proofs.Common.{◌≡◌, ℕ, zero, suc, ◌≤◌, List, [], ◌∷◌, slice_get, Some, ap, arith}
+-- What lists weigh: as much as all their elements, and an element no more than its list.
+use Rattle.std.proofs.Common.{◌≡◌, ℕ, zero, suc, ◌+◌, ◌≤◌, List, [], ◌∷◌, ◌++◌, slice_get, Some, ap, arith}
 use Rattle.ad_value.specs.Plain.{Plain, plains_of}
 use Rattle.ad_value.specs.Operators.{weight_of, weights_of}
 
@@ -10,3 +10,7 @@ weight_of-element (q ∷ ps) zero p found =
     let same : weight_of q ≡ weight_of p = ap weight_of first in
     omega arith
 weight_of-element (q ∷ ps) (suc i) p found = omega (arith, weight_of-element ps i p found)
+
+pub weights_of-then : (ps : List Plain) (p : Plain) → weights_of (plains_of (ps ++ p ∷ [])) ≡ weights_of (plains_of ps) + weight_of p
+weights_of-then [] p = omega arith
+weights_of-then (q ∷ ps) p = omega (arith, weights_of-then ps p)

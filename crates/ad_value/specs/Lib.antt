@@ -1,6 +1,9 @@
+pub mod Codes
 pub mod Demands
+pub mod Falls
 pub mod Limits
 pub mod Logic
 pub mod Numbers
 pub mod Operators
 pub mod Plain
+pub mod Shapes

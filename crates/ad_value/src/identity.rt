@@ -31,8 +31,8 @@ fn same_items(a: &Values, b: &Values) -> bool
     if a.len() != b.len() {
         return false;
     }
-    for (i, item) in a.items.iter().enumerate() {
-        if !same(item, &b.items[i]) {
+    for i in 0..a.len() {
+        if !same(a.at(i), b.at(i)) {
             return false;
         }
     }

@@ -1,5 +1,6 @@
 -- Members and ranks that reach a bar.
-use Rattle.std.proofs.Common.{◌≡◌, ℕ, ℤ, pos, negsuc, Bool, true, false, true≢false, not, ◌&&◌, int_lt, cond, List, Option, None, Some, Less, Equal, Greater, Ordering, option_map, if◌then◌else◌, refl, ap, sym, ◌∙◌, arith}
+use Rattle.std.proofs.Common.{◌≡◌, ℕ, ℤ, pos, negsuc, Bool, true, false, true≢false, not, ◌&&◌, int_lt, cond, List, Option, None, Some, Less}
+use Rattle.std.proofs.Common.{Equal, Greater, Ordering, option_map, if◌then◌else◌, refl, ap, sym, ◌∙◌, arith}
 use Rattle.std.specs.Option.{option_and_then}
 use Rattle.std.specs.Ordering.{int_cmp, is_lt, nat_cmp, ordering_then}
 use Rattle.ad_tree.specs.Frames.{Frame}
@@ -28,7 +29,8 @@ ranks-there bar (Some x) r is = by (reaches bar x.rank) refl is
     by false e same = absurd (cc)
 
 -- what is won reaches the bar where its ranks do
-pub won-above : (bar : Option ℤ) (won : Option Preemption) (r : Ranks) (place : ℕ) → reaches bar r.rank ≡ true → where_won won r place ≡ member_above bar (where_won won r place)
+pub won-above : (bar : Option ℤ) (won : Option Preemption) (r : Ranks) (place : ℕ) → reaches bar r.rank ≡ true
+    → where_won won r place ≡ member_above bar (where_won won r place)
 won-above bar None r place high = refl
 won-above bar (Some preemption) r place high = sym (ap (λ (b : Bool). if b then where_won (Some preemption) r place else None) high)
 
@@ -36,10 +38,14 @@ won-above bar (Some preemption) r place high = sym (ap (λ (b : Bool). if b then
 module _ (pool : Pool) (request : List Frame) (number place : ℕ) (bar : Option ℤ) where
   below : (a : Advert) (r : Ranks) → r.rank ≡ rank_of_dock pool.moment request a.ad → (docked : Bool)
       → None ≡ ranks_above bar (if docked then Some r else None)
-      → None ≡ member_above bar (if is_live pool.moment a && (not (pool.is_offered place) && (docked && is_won pool request number place a.ad)) then Some (as_member pool request place a) else None)
-  below a r same docked none = by (is_live pool.moment a) (not (pool.is_offered place)) docked (is_won pool request number place a.ad) (reaches bar r.rank) refl none
+      → None ≡ member_above bar (if is_live pool.moment a
+      && (not (pool.is_offered place) && (docked && is_won pool request number place a.ad)) then Some (as_member pool request place a) else None)
+  below a r same docked none =
+      by (is_live pool.moment a) (not (pool.is_offered place)) docked (is_won pool request number place a.ad) (reaches bar r.rank) refl none
     where
-      high-here : (b : Bool) → reaches bar r.rank ≡ b → (if reaches bar (rank_of_dock pool.moment request a.ad) then Some (as_member pool request place a) else None) ≡ (if b then Some (as_member pool request place a) else None)
+      high-here : (b : Bool) → reaches bar r.rank ≡ b
+          → (if reaches bar (rank_of_dock pool.moment request a.ad) then Some (as_member pool request place a) else None)
+          ≡ (if b then Some (as_member pool request place a) else None)
       high-here b e = ap (λ (c : Bool). if c then Some (as_member pool request place a) else None) (ap (reaches bar) (sym same) ∙ e)
 
       by : (live free docks won high : Bool) → reaches bar r.rank ≡ high → None ≡ ranks_above bar (if docks then Some r else None)
@@ -51,7 +57,8 @@ module _ (pool : Pool) (request : List Frame) (number place : ℕ) (bar : Option
       by true false docks won high e none = refl
       by false free docks won high e none = refl
 
-  pub none-above : (fs : List Frame) (o : Option Advert) → option_map (λ a. a.ad) o ≡ Some fs → None ≡ ranks_above bar (ranks_of_dock pool.moment request fs)
+  pub none-above : (fs : List Frame) (o : Option Advert) → option_map (λ a. a.ad) o ≡ Some fs
+      → None ≡ ranks_above bar (ranks_of_dock pool.moment request fs)
       → None ≡ member_above bar (option_and_then (member_with pool request number place) o)
   none-above fs None is none = refl
   none-above fs (Some a) is none =
@@ -77,5 +84,7 @@ earlier-above (Some a) (Some b) = by (int_lt b.rank a.rank) (int_lt a.rank b.ran
     by true true l h = absurd (true≢false (sym (not-below b.rank a.rank l h)))
     by true false l h =
         ap (λ (low : Bool). earlier (Some a) (if not low then Some b else None)) l
-        ∙ sym (ap (λ (o : Ordering). if is_lt (ordering_then (ordering_then (ordering_then o (nat_cmp (order_of b.preemption) (order_of a.preemption))) (int_cmp a.regard b.regard)) (nat_cmp b.place a.place)) then Some b else Some a)
+        ∙ sym (ap (λ (o : Ordering). if is_lt (ordering_then
+        (ordering_then (ordering_then o (nat_cmp (order_of b.preemption) (order_of a.preemption))) (int_cmp a.regard b.regard))
+        (nat_cmp b.place a.place)) then Some b else Some a)
         (ap (λ (c : Bool). cond c Less (cond (int_lt b.rank a.rank) Greater Equal)) h ∙ ap (λ (c : Bool). cond c Greater Equal) l))

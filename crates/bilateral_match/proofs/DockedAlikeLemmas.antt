@@ -1,5 +1,6 @@
 -- Requests that ads dock with alike have the same answers, and the same best member.
-use Rattle.std.proofs.Common.{◌≡◌, ℕ, ℤ, suc, Bool, not, ◌&&◌, List, [], ◌∷◌, Option, None, Some, option_map, if◌then◌else◌, refl, ap, ◌∙◌}
+use Rattle.std.proofs.Common.{◌≡◌, ℕ, ℤ, suc, Bool, not, ◌&&◌, List, [], ◌∷◌, Option, None, Some, option_map, if◌then◌else◌, refl, ap}
+use Rattle.std.proofs.Common.{◌∙◌}
 use Rattle.std.specs.List.{cons_option}
 use Rattle.std.proofs.lemmas.List.Elements.{All-head, All-tail}
 use Rattle.ad_tree.specs.Frames.{Frame}
@@ -26,7 +27,8 @@ module _ (moment : ℕ) (a b : List Frame) where
   matches-same : (k : ℕ) (ads : List Advert) → AllDockAlike moment a b ads → matches_from moment a k ads ≡ matches_from moment b k ads
   matches-same k [] h = refl
   matches-same k (advert ∷ ads) h =
-      ap (λ m. cons_option m (matches_from moment a (suc k) ads)) (match-same k advert (All-head (λ (x : Advert). AreDockedAlike moment a b x.ad) advert ads h))
+      ap (λ m. cons_option m (matches_from moment a (suc k) ads))
+      (match-same k advert (All-head (λ (x : Advert). AreDockedAlike moment a b x.ad) advert ads h))
       ∙ ap (cons_option (match_with moment b k advert)) (matches-same (suc k) ads (All-tail (λ (x : Advert). AreDockedAlike moment a b x.ad) advert ads h))
 
   pub answers-same : (ads : List Advert) → AllDockAlike moment a b ads → answers moment a ads ≡ answers moment b ads
@@ -42,7 +44,8 @@ module _ (pool : Pool) (number : ℕ) (a b : List Frame) where
       then Some (record { rank = rank; preemption = preemption_of given (pool.held_in k); regard = given; place = k })
       else None
 
-  member-same : (k : ℕ) (advert : Advert) → AreDockedAlike pool.moment a b advert.ad → member_with pool a number k advert ≡ member_with pool b number k advert
+  member-same : (k : ℕ) (advert : Advert) → AreDockedAlike pool.moment a b advert.ad
+      → member_with pool a number k advert ≡ member_with pool b number k advert
   member-same k advert h =
       ap (λ d. member_by k advert d (rank_of_dock pool.moment a advert.ad) (regard pool.moment a advert.ad)) h.dock
       ∙ ap (λ r. member_by k advert (docks pool.moment b advert.ad) r (regard pool.moment a advert.ad)) h.rank
@@ -51,8 +54,10 @@ module _ (pool : Pool) (number : ℕ) (a b : List Frame) where
   members-same : (k : ℕ) (ads : List Advert) → AllDockAlike pool.moment a b ads → members_from pool a number k ads ≡ members_from pool b number k ads
   members-same k [] h = refl
   members-same k (advert ∷ ads) h =
-      ap (λ m. cons_option m (members_from pool a number (suc k) ads)) (member-same k advert (All-head (λ (x : Advert). AreDockedAlike pool.moment a b x.ad) advert ads h))
-      ∙ ap (cons_option (member_with pool b number k advert)) (members-same (suc k) ads (All-tail (λ (x : Advert). AreDockedAlike pool.moment a b x.ad) advert ads h))
+      ap (λ m. cons_option m (members_from pool a number (suc k) ads))
+      (member-same k advert (All-head (λ (x : Advert). AreDockedAlike pool.moment a b x.ad) advert ads h))
+      ∙ ap (cons_option (member_with pool b number k advert))
+      (members-same (suc k) ads (All-tail (λ (x : Advert). AreDockedAlike pool.moment a b x.ad) advert ads h))
 
   pub best-same : AllDockAlike pool.moment a b pool.ads → best pool a number ≡ best pool b number
   best-same h = ap first_of (members-same 0 pool.ads h)

@@ -1,5 +1,6 @@
 -- An expression that an ad settles has one value beside it for all requests, and so has a rank by that expression.
-use Rattle.std.proofs.Common.{◌≡◌, ◌+◌, ℕ, ℤ, pos, zero, suc, Bool, true, false, not, ◌&&◌, List, [], ◌∷◌, drop, eqb, set, slice_get, Option, None, Some, is_some, IfSome, if◌then◌else◌, refl, ap, sym, ◌∙◌, subst, arith}
+use Rattle.std.proofs.Common.{◌≡◌, ◌+◌, ℕ, ℤ, pos, zero, suc, Bool, true, false, not, ◌&&◌, List, [], ◌∷◌, drop, eqb, set, slice_get}
+use Rattle.std.proofs.Common.{Option, None, Some, is_some, IfSome, if◌then◌else◌, refl, ap, sym, ◌∙◌, subst, arith}
 use Rattle.std.specs.Prelude.{codes, option_map, unwrap_or}
 use Rattle.std.specs.Option.{option_and_then, option_map_or}
 use Rattle.std.proofs.lemmas.Bool.Decides.{nat_tests}
@@ -88,7 +89,8 @@ module _ (moment : ℕ) (a b ad : List Frame) where
         ∙ node-same n label (results_by (value_at (suc n) v) v root ts) halves.0
     by-same n (frame f) s = absurd (cc)
 
-    results-same : (n : ℕ) (ts : Trees) → are_settled ad ts ≡ true → results_by (value_at (suc n) w) w root ts ≡ results_by (value_at (suc n) v) v root ts
+    results-same : (n : ℕ) (ts : Trees) → are_settled ad ts ≡ true
+        → results_by (value_at (suc n) w) w root ts ≡ results_by (value_at (suc n) v) v root ts
     results-same n none s = refl
     results-same n (more t ts) s =
         let halves = both-true (is_settled ad t) (are_settled ad ts) s in
@@ -102,19 +104,23 @@ abbrev number : PlainWorld → Tree → ℤ
 number w expr = rank_number (unwrap_or (value_by (value_at 23 w) w root expr) error)
 
 module _ (moment : ℕ) (a ad : List Frame) where
-  value-is : (n : ℕ) (s : Pos) → value_at (suc n) (pair_world moment a ad) s ≡ option_and_then (value_by (value_at n (pair_world moment a ad)) (pair_world moment a ad) (frame_of_attribute s)) (expr_of (pair_world moment a ad) s)
+  value-is : (n : ℕ) (s : Pos)
+      → value_at (suc n) (pair_world moment a ad) s ≡ option_and_then (value_by (value_at n (pair_world moment a ad)) (pair_world moment a ad)
+      (frame_of_attribute s)) (expr_of (pair_world moment a ad) s)
   unfolding value_at
   value-is n s = refl
 
   rank-is : (expr : Tree) → rank_expr a ≡ Some expr → rank_of_dock moment a ad ≡ number (pair_world moment a ad) expr
   rank-is expr is = by (attribute_named a 0 (codes "Rank")) refl is
     where
-      by : (o : Option ℕ) → attribute_named a 0 (codes "Rank") ≡ o → option_and_then (λ k. expr_at a 0 k) o ≡ Some expr → rank_of_dock moment a ad ≡ number (pair_world moment a ad) expr
+      by : (o : Option ℕ) → attribute_named a 0 (codes "Rank") ≡ o → option_and_then (λ k. expr_at a 0 k) o ≡ Some expr
+          → rank_of_dock moment a ad ≡ number (pair_world moment a ad) expr
       by None e is = absurd (cc)
       by (Some k) e is =
           ap (λ (o : Option ℕ). option_map_or (λ k. rank_number (evaluation_at (pair_world moment a ad) (attribute_of root k))) o (pos 0)) e
           ∙ ap (λ (o : Option Plain). rank_number (unwrap_or o error)) (value-is 23 (attribute_of root k))
-          ∙ ap (λ (o : Option Tree). rank_number (unwrap_or (option_and_then (value_by (value_at 23 (pair_world moment a ad)) (pair_world moment a ad) root) o) error)) is
+          ∙ ap (λ (o : Option Tree). rank_number (unwrap_or (option_and_then (value_by (value_at 23 (pair_world moment a ad)) (pair_world moment a ad) root)
+          o) error)) is
 
 -- two requests with the same rank expression give an ad that settles it the same rank
 pub rank-same : (moment : ℕ) (a b ad : List Frame) (expr : Option Tree) → rank_expr a ≡ expr → rank_expr b ≡ expr → is_rank_settled ad expr ≡ true
@@ -148,7 +154,8 @@ module _ {X : Type 0} where
   set-there (z ∷ xs) (suc k) (suc i) x apart = set-there xs k i x (grind (arith, nat_tests))
 
 -- ranks with one that a request gives an ad that settles it
-module _ (moment : ℕ) (ads : List Advert) (expr : Option Tree) (ranks : List (Option ℤ)) (place : ℕ) (r : ℤ) (request ad : List Frame) (are : AreRanks moment ads expr ranks) where
+module _ (moment : ℕ) (ads : List Advert) (expr : Option Tree) (ranks : List (Option ℤ)) (place : ℕ) (r : ℤ) (request ad : List Frame)
+    (are : AreRanks moment ads expr ranks) where
   pub one-noted : option_map (λ (a : Advert). a.ad) (slice_get ads place) ≡ Some ad → r ≡ rank_of_dock moment request ad → rank_expr request ≡ expr
       → is_rank_settled ad expr ≡ true → AreRanks moment ads expr (set ranks place (Some r))
   one-noted at is same settled q rank advert there within other alike = by (eqb place q) refl
@@ -164,8 +171,10 @@ module _ (moment : ℕ) (ads : List Advert) (expr : Option Tree) (ranks : List (
           ap (rank_of_dock moment other) ad-is ∙ rank-same moment other request ad expr alike same settled ∙ sym is ∙ cc
 
 -- a rank that is noted
-pub noted : (moment : ℕ) (ads : List Advert) (expr : Option Tree) (ranks : List (Option ℤ)) (place : ℕ) (rank : Option ℤ) (request ad : List Frame) → AreRanks moment ads expr ranks
-    → option_map (λ (a : Advert). a.ad) (slice_get ads place) ≡ Some ad → IfSome rank (λ n. n ≡ rank_of_dock moment request ad) → is_some rank ≡ true → rank_expr request ≡ expr
+pub noted : (moment : ℕ) (ads : List Advert) (expr : Option Tree) (ranks : List (Option ℤ)) (place : ℕ) (rank : Option ℤ) (request ad : List Frame)
+    → AreRanks moment ads expr ranks
+    → option_map (λ (a : Advert). a.ad) (slice_get ads place) ≡ Some ad → IfSome rank (λ n. n ≡ rank_of_dock moment request ad)
+    → is_some rank ≡ true → rank_expr request ≡ expr
     → is_rank_settled ad expr ≡ true → AreRanks moment ads expr (set ranks place rank)
 noted moment ads expr ranks place None request ad are at is some same settled = absurd (cc)
 noted moment ads expr ranks place (Some r) request ad are at is some same settled = one-noted moment ads expr ranks place r request ad are at is same settled
@@ -182,23 +191,29 @@ module _ (pool : Pool) (request : List Frame) (number place : ℕ) (bar : Option
       by false false e under = refl
       by true false e under = sym (ap (λ (c : Bool). if c then Some (as_member pool request place advert) else None) (ap (reaches bar) is ∙ e))
 
-  pub below-known : (ranks : List (Option ℤ)) → AreRanks pool.moment pool.ads (rank_expr request) ranks → is_known_below bar (known_at ranks place) ≡ true
+  pub below-known : (ranks : List (Option ℤ)) → AreRanks pool.moment pool.ads (rank_expr request) ranks
+      → is_known_below bar (known_at ranks place) ≡ true
       → None ≡ member_above bar (member_at pool request number place)
   below-known ranks are under = by (slice_get ranks place) (slice_get pool.ads place) refl refl under
     where
       by : (known : Option (Option ℤ)) (there : Option Advert) → slice_get ranks place ≡ known → slice_get pool.ads place ≡ there
-          → is_known_below bar (option_and_then (λ rank. rank) known) ≡ true → None ≡ member_above bar (option_and_then (member_with pool request number place) there)
+          → is_known_below bar (option_and_then (λ rank. rank) known) ≡ true
+          → None ≡ member_above bar (option_and_then (member_with pool request number place) there)
       by None there e at under = absurd (cc)
       by (Some None) there e at under = absurd (cc)
       by (Some (Some rank)) None e at under = refl
       by (Some (Some rank)) (Some advert) e at under = low advert rank (are place rank advert e at request refl) under
 
 -- a rank that is known is that of the dock
-pub known-is : (moment : ℕ) (ads : List Advert) (request ad : List Frame) (ranks : List (Option ℤ)) (place : ℕ) (known : Option ℤ) → AreRanks moment ads (rank_expr request) ranks
-    → option_map (λ (a : Advert). a.ad) (slice_get ads place) ≡ Some ad → known ≡ known_at ranks place → IfSome known (λ n. n ≡ rank_of_dock moment request ad)
-known-is moment ads request ad ranks place known are at is = subst (λ (o : Option ℤ). IfSome o (λ n. n ≡ rank_of_dock moment request ad)) (sym is) (by (slice_get ranks place) (slice_get ads place) refl refl at)
+pub known-is : (moment : ℕ) (ads : List Advert) (request ad : List Frame) (ranks : List (Option ℤ)) (place : ℕ) (known : Option ℤ)
+    → AreRanks moment ads (rank_expr request) ranks
+    → option_map (λ (a : Advert). a.ad) (slice_get ads place) ≡ Some ad → known ≡ known_at ranks place
+    → IfSome known (λ n. n ≡ rank_of_dock moment request ad)
+known-is moment ads request ad ranks place known are at is =
+    subst (λ (o : Option ℤ). IfSome o (λ n. n ≡ rank_of_dock moment request ad)) (sym is) (by (slice_get ranks place) (slice_get ads place) refl refl at)
   where
-    by : (o : Option (Option ℤ)) (there : Option Advert) → slice_get ranks place ≡ o → slice_get ads place ≡ there → option_map (λ (a : Advert). a.ad) there ≡ Some ad
+    by : (o : Option (Option ℤ)) (there : Option Advert) → slice_get ranks place ≡ o → slice_get ads place ≡ there
+        → option_map (λ (a : Advert). a.ad) there ≡ Some ad
         → IfSome (option_and_then (λ rank. rank) o) (λ n. n ≡ rank_of_dock moment request ad)
     by None there e within at = tt
     by (Some None) there e within at = tt

@@ -1,5 +1,6 @@
 -- Loops over lists, step by step.
-use Rattle.std.proofs.Common.{◌≡◌, ◌<◌, ◌≤◌, ◌+◌, ℕ, List, [], ◌∷◌, ◌++◌, length, take, get_or, Option, sum_by, ap, sym, ◌∙◌, arith}
+use Rattle.std.proofs.Common.{◌≡◌, ◌<◌, ◌≤◌, ◌+◌, ℕ, List, [], ◌∷◌, ◌++◌, length, take, get_or, Option, sum_by, ap, sym}
+use Rattle.std.proofs.Common.{◌∙◌, arith}
 use Rattle.std.specs.List.{cons_option, filter_map}
 use Rattle.std.proofs.lemmas.List.{take_all, take_more}
 use Rattle.std.proofs.lemmas.List.Elements.{filter_map-append}
@@ -20,7 +21,8 @@ module _ (f : ℕ → ℕ) (xs ys : List ℕ) (same : xs ≡ ys) (i before now a
 -- ---- what is found
 
 module _ {Y : Type 0} (h : ℕ → Option Y) (xs : List ℕ) (i : ℕ) where
-  pub finds-next : (found new : List Y) (o : Option Y) → i < length xs → found ≡ filter_map h (take i xs) → o ≡ h (get_or xs i 0) → new ≡ found ++ cons_option o [] → new ≡ filter_map h (take (i + 1) xs)
+  pub finds-next : (found new : List Y) (o : Option Y) → i < length xs → found ≡ filter_map h (take i xs) → o ≡ h (get_or xs i 0)
+      → new ≡ found ++ cons_option o [] → new ≡ filter_map h (take (i + 1) xs)
   finds-next found new o within so_far next added =
       added
       ∙ ap (λ ys. ys ++ cons_option o []) so_far

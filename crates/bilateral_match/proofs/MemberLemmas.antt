@@ -1,5 +1,6 @@
 -- Members in order: the first of them, whatever the order in which they come.
-use Rattle.std.proofs.Common.{◌≡◌, ◌+◌, ℕ, suc, Bool, true, false, refl, List, [], ◌∷◌, ◌++◌, cond, sum_by, Option, None, Some, if◌then◌else◌, All, Contains, ap, sym, ◌∙◌, subst, arith, zero-add, ℤ, Less, Equal, Greater}
+use Rattle.std.proofs.Common.{◌≡◌, ◌+◌, ℕ, suc, Bool, true, false, refl, List, [], ◌∷◌, ◌++◌, cond, sum_by, Option, None, Some}
+use Rattle.std.proofs.Common.{if◌then◌else◌, All, Contains, ap, sym, ◌∙◌, subst, arith, zero-add, ℤ, Less, Equal, Greater}
 use Rattle.std.specs.Cmp.{IsTotalOrder, IsStrictWeakOrder}
 use Rattle.std.specs.Ordering.{int_cmp, is_lt, nat_cmp, ordering_reverse, ordering_then}
 use Rattle.std.specs.declared.cmp.Ordering.{Ordering}
@@ -43,7 +44,9 @@ whole r c s p = ordering_then (ordering_then (ordering_then r c) s) p
 
 -- two members of which neither is before the other are one
 ties-are-one : (a b : Member) → NotBefore b a → NotBefore a b → a ≡ b
-ties-are-one a b h k = by (int_cmp b.rank a.rank) (nat_cmp (order_of a.preemption) (order_of b.preemption)) (int_cmp b.regard a.regard) (nat_cmp a.place b.place) refl refl refl refl h (turned (member_order a b) (member_order b a) (member_total.antisymm b a) k)
+ties-are-one a b h k =
+    by (int_cmp b.rank a.rank) (nat_cmp (order_of a.preemption) (order_of b.preemption)) (int_cmp b.regard a.regard) (nat_cmp a.place b.place) refl refl refl
+    refl h (turned (member_order a b) (member_order b a) (member_total.antisymm b a) k)
   where
     turned : (r s : Ordering) → s ≡ ordering_reverse r → is_lt s ≡ false → r ≡ Greater → ⊥
     turned r s e f g = let same : s ≡ Less = e ∙ ap ordering_reverse g in let other : true ≡ false = sym (ap is_lt same) ∙ f in cc
@@ -66,7 +69,8 @@ ties-are-one a b h k = by (int_cmp b.rank a.rank) (nat_cmp (order_of a.preemptio
         ∙ ap (λ (r : ℤ). let m : Member = record { rank = b.rank; preemption = b.preemption; regard = r; place = a.place } in m) (sym regards)
         ∙ ap (λ (p : ℕ). let m : Member = record { rank = b.rank; preemption = b.preemption; regard = b.regard; place = p } in m) places
 
-    by : (r c s p : Ordering) → int_cmp b.rank a.rank ≡ r → nat_cmp (order_of a.preemption) (order_of b.preemption) ≡ c → int_cmp b.regard a.regard ≡ s → nat_cmp a.place b.place ≡ p
+    by : (r c s p : Ordering) → int_cmp b.rank a.rank ≡ r → nat_cmp (order_of a.preemption) (order_of b.preemption) ≡ c
+        → int_cmp b.regard a.regard ≡ s → nat_cmp a.place b.place ≡ p
         → is_lt (whole r c s p) ≡ false → (whole r c s p ≡ Greater → ⊥) → a ≡ b
     by Less c s p e f g i low high = absurd (cc)
     by Greater c s p e f g i low high = absurd (high refl)
@@ -77,7 +81,9 @@ ties-are-one a b h k = by (int_cmp b.rank a.rank) (nat_cmp (order_of a.preemptio
     by Equal Equal Equal Less e f g i low high = absurd (cc)
     by Equal Equal Equal Greater e f g i low high = absurd (high refl)
     by Equal Equal Equal Equal e f g i low high =
-        same_parts (int_ranked b.rank a.rank Equal (sym e)) (origins a.preemption b.preemption (ranked (order_of a.preemption) (order_of b.preemption) Equal (sym f))) (int_ranked b.regard a.regard Equal (sym g)) (ranked a.place b.place Equal (sym i))
+        same_parts (int_ranked b.rank a.rank Equal (sym e))
+        (origins a.preemption b.preemption (ranked (order_of a.preemption) (order_of b.preemption) Equal (sym f)))
+        (int_ranked b.regard a.regard Equal (sym g)) (ranked a.place b.place Equal (sym i))
 
 -- ---- one more member
 
@@ -96,7 +102,8 @@ first-next ms (Some a) (Some m) h = by (is_lt (member_order m a)) refl
     by : (b : Bool) → is_lt (member_order m a) ≡ b → IsBest (ms ++ m ∷ []) (if b then Some m else Some a)
     by true e = record {
       among = Contains-push ms m;
-      none_before = All-push (NotBefore m) ms m (λ k d within. member_weak.chain _ a m (h.none_before k d within) (member_weak.one_way m a e)) (not-before-itself m);
+      none_before =
+          All-push (NotBefore m) ms m (λ k d within. member_weak.chain _ a m (h.none_before k d within) (member_weak.one_way m a e)) (not-before-itself m);
     }
     by false e = record {
       among = Contains-append_left ms (m ∷ []) a h.among;

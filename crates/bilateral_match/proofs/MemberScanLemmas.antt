@@ -1,5 +1,7 @@
 -- Going through places: the members that are found, and how often resources are evaluated.
-use Rattle.std.proofs.Common.{◌≡◌, ◌<◌, ◌≤◌, ◌+◌, ◌*◌, ℕ, suc, Bool, true, false, not, ◌&&◌, refl, List, [], ◌∷◌, ◌++◌, Option, None, Some, option_map, slice_get, get_or, take, sum_by, if◌then◌else◌, length, All, IfSome, ap, sym, ◌∙◌, subst, arith, zero-add}
+use Rattle.std.proofs.Common.{◌≡◌, ◌<◌, ◌≤◌, ◌+◌, ◌*◌, ℕ, suc, Bool, true, false, not, ◌&&◌, refl, List, [], ◌∷◌, ◌++◌}
+use Rattle.std.proofs.Common.{Option, None, Some, option_map, slice_get, get_or, take, sum_by, if◌then◌else◌, length, All, IfSome, ap, sym, ◌∙◌}
+use Rattle.std.proofs.Common.{subst, arith, zero-add}
 use Rattle.std.specs.List.{cons_option, filter_map}
 use Rattle.std.specs.Option.{option_and_then, option_map_or}
 use Rattle.std.proofs.lemmas.List.Elements.{All-cons, All-contains, All-nil, All-tail}
@@ -28,7 +30,8 @@ module _ (pool : Pool) (request : List Frame) where
   no-member : (number place : ℕ) (advert : Advert) → is_undecided request advert.ad ≡ false → member_with pool request number place advert ≡ None
   no-member number place advert decided =
       ap (λ (b : Bool). if b then Some (as_member pool request place advert) else None)
-      (ap (λ (d : Bool). is_live pool.moment advert && (not (pool.is_offered place) && (d && is_won pool request number place advert.ad))) (decided-docks pool.moment request advert.ad decided)
+      (ap (λ (d : Bool). is_live pool.moment advert && (not (pool.is_offered place) && (d && is_won pool request number place advert.ad)))
+      (decided-docks pool.moment request advert.ad decided)
       ∙ nothing-won (is_live pool.moment advert) (not (pool.is_offered place)) (is_won pool request number place advert.ad))
 
   not-open : (place : ℕ) (advert : Advert) → is_undecided request advert.ad ≡ false → is_open pool request place advert ≡ false
@@ -36,16 +39,21 @@ module _ (pool : Pool) (request : List Frame) where
 
   -- ---- sums over all ads
 
-  members-total : (number : ℕ) (f : Member → ℕ) (k : ℕ) (ads : List Advert) → sum_by f (members_from pool request number k ads) ≡ sum_from (λ place a. option_map_or f (member_with pool request number place a) 0) k ads
+  members-total : (number : ℕ) (f : Member → ℕ) (k : ℕ) (ads : List Advert)
+      → sum_by f (members_from pool request number k ads) ≡ sum_from (λ place a. option_map_or f (member_with pool request number place a) 0) k ads
   members-total number f k [] = refl
   members-total number f k (a ∷ ads) = by (members-total number f (suc k) ads) (member_with pool request number k a)
     where
-      by : sum_by f (members_from pool request number (suc k) ads) ≡ sum_from (λ place a. option_map_or f (member_with pool request number place a) 0) (suc k) ads → (o : Option Member)
-          → sum_by f (cons_option o (members_from pool request number (suc k) ads)) ≡ option_map_or f o 0 + sum_from (λ place a. option_map_or f (member_with pool request number place a) 0) (suc k) ads
+      by : sum_by f (members_from pool request number (suc k) ads)
+          ≡ sum_from (λ place a. option_map_or f (member_with pool request number place a) 0) (suc k) ads → (o : Option Member)
+          → sum_by f (cons_option o (members_from pool request number (suc k) ads))
+          ≡ option_map_or f o 0 + sum_from (λ place a. option_map_or f (member_with pool request number place a) 0) (suc k) ads
       by behind None = behind ∙ sym (zero-add (sum_from (λ place a. option_map_or f (member_with pool request number place a) 0) (suc k) ads))
       by behind (Some m) = sum_by-cons f m (members_from pool request number (suc k) ads) ∙ ap (λ n. f m + n) behind
 
-  five-times : (k : ℕ) (ads : List Advert) → sum_from (λ place a. if is_open pool request place a then 5 else 0) k ads ≡ 5 * sum_from (λ place a. if is_open pool request place a then 1 else 0) k ads
+  five-times : (k : ℕ) (ads : List Advert)
+      → sum_from (λ place a. if is_open pool request place a then 5 else 0) k ads
+      ≡ 5 * sum_from (λ place a. if is_open pool request place a then 1 else 0) k ads
   five-times k [] = refl
   five-times k (a ∷ ads) =
       let rest = five-times (suc k) ads in
@@ -59,7 +67,8 @@ module _ (pool : Pool) (request : List Frame) where
   -- ---- over the candidates
 
   module _ (places : List ℕ) (some : AreCandidates request pool.ads places) where
-    pub found-members : (number : ℕ) (f : Member → ℕ) → sum_by f (filter_map (member_at pool request number) places) ≡ sum_by f (members pool request number)
+    pub found-members : (number : ℕ) (f : Member → ℕ)
+        → sum_by f (filter_map (member_at pool request number) places) ≡ sum_by f (members pool request number)
     found-members number f =
         sum-filter_map f (member_at pool request number) places
         ∙ all-total pool.moment request pool.ads places some
@@ -69,8 +78,11 @@ module _ (pool : Pool) (request : List Frame) where
         ∙ sym (members-total number f 0 pool.ads)
 
     -- the first of what is found is the best
-    pub found-best : (number : ℕ) (first : Option Member) → IsBest (filter_map (member_at pool request number) places) first → first ≡ best pool request number
-    found-best number first h = one-first (filter_map (member_at pool request number) places) (members pool request number) first (first_of (members pool request number)) (found-members number) h (first-is-best (members pool request number))
+    pub found-best : (number : ℕ) (first : Option Member) → IsBest (filter_map (member_at pool request number) places) first
+        → first ≡ best pool request number
+    found-best number first h =
+        one-first (filter_map (member_at pool request number) places) (members pool request number) first (first_of (members pool request number))
+        (found-members number) h (first-is-best (members pool request number))
 
     pub open-sum : sum_by (evaluations_for pool request) places ≡ 5 * open_count pool request
     open-sum =
@@ -85,12 +97,14 @@ module _ (pool : Pool) (request : List Frame) where
         all-total pool.moment request pool.ads places some
         (λ place a. if is_open pool request place a then attributes_weighed pool request place a else 0) (attributes_for pool request)
         (λ place a e. ap (λ (b : Bool). if b then attributes_weighed pool request place a else 0) (not-open place a e))
-        (λ place a is. ap (λ o. option_map_or (λ (advert : Advert). if is_open pool request place advert then attributes_weighed pool request place advert else 0) o 0) is)
+        (λ place a is. ap (λ o. option_map_or (λ (advert : Advert). if is_open pool request place advert then attributes_weighed pool request place
+        advert else 0) o 0) is)
 
 -- ---- step by step
 
 module _ (h : ℕ → Option Member) (xs : List ℕ) (i : ℕ) where
-  pub first-grows : (first new next : Option Member) → i < length xs → IsBest (filter_map h (take i xs)) first → next ≡ h (get_or xs i 0) → new ≡ earlier first next → IsBest (filter_map h (take (i + 1) xs)) new
+  pub first-grows : (first new next : Option Member) → i < length xs → IsBest (filter_map h (take i xs)) first → next ≡ h (get_or xs i 0)
+      → new ≡ earlier first next → IsBest (filter_map h (take (i + 1) xs)) new
   first-grows first new next within so_far found is =
       let P : Option Member → Type 0 = λ o. IsBest (filter_map h (take (i + 1) xs)) o in
       let Q : List Member → Type 0 = λ ms. IsBest ms (earlier first next) in
@@ -98,7 +112,8 @@ module _ (h : ℕ → Option Member) (xs : List ℕ) (i : ℕ) where
       (subst Q (finds-next h xs i (filter_map h (take i xs)) (filter_map h (take i xs) ++ cons_option next []) next within refl found refl)
       (first-next (filter_map h (take i xs)) first next so_far))
 
-  pub first-ends : (ys : List ℕ) (first : Option Member) → xs ≡ ys → length xs ≤ i → IsBest (filter_map h (take i xs)) first → IsBest (filter_map h ys) first
+  pub first-ends : (ys : List ℕ) (first : Option Member) → xs ≡ ys → length xs ≤ i → IsBest (filter_map h (take i xs)) first
+      → IsBest (filter_map h ys) first
   first-ends ys first same past so_far =
       let Q : List Member → Type 0 = λ ms. IsBest ms first in
       subst Q (finds-all h xs i ys (filter_map h (take i xs)) same past refl) so_far
@@ -106,15 +121,20 @@ module _ (h : ℕ → Option Member) (xs : List ℕ) (i : ℕ) where
 -- ---- what each member is
 
 module _ (pool : Pool) (request : List Frame) (number : ℕ) (P : Member → Type 0) where
-  pub all-found : (places : List ℕ) → All (λ place. (m : Member) → member_at pool request number place ≡ Some m → P m) places → All P (filter_map (member_at pool request number) places)
+  pub all-found : (places : List ℕ) → All (λ place. (m : Member) → member_at pool request number place ≡ Some m → P m) places
+      → All P (filter_map (member_at pool request number) places)
   all-found [] h = All-nil P
-  all-found (place ∷ places) h = by (all-found places (All-tail (λ place. (m : Member) → member_at pool request number place ≡ Some m → P m) place places h)) (member_at pool request number place) refl
+  all-found (place ∷ places) h =
+      by (all-found places (All-tail (λ place. (m : Member) → member_at pool request number place ≡ Some m → P m) place places h))
+      (member_at pool request number place) refl
     where
-      by : All P (filter_map (member_at pool request number) places) → (o : Option Member) → member_at pool request number place ≡ o → All P (cons_option o (filter_map (member_at pool request number) places))
+      by : All P (filter_map (member_at pool request number) places) → (o : Option Member) → member_at pool request number place ≡ o
+          → All P (cons_option o (filter_map (member_at pool request number) places))
       by rest None e = rest
       by rest (Some m) e = All-cons P m (filter_map (member_at pool request number) places) (h 0 place (omega arith) m e) rest
 
-  of-first : (places : List ℕ) (first : Option Member) → IsBest (filter_map (member_at pool request number) places) first → All (λ place. (m : Member) → member_at pool request number place ≡ Some m → P m) places → IfSome first P
+  of-first : (places : List ℕ) (first : Option Member) → IsBest (filter_map (member_at pool request number) places) first
+      → All (λ place. (m : Member) → member_at pool request number place ≡ Some m → P m) places → IfSome first P
   of-first places None is h = tt
   of-first places (Some m) is h = All-contains P (filter_map (member_at pool request number) places) m (all-found places h) is.among
 
@@ -123,35 +143,44 @@ module _ (pool : Pool) (request : List Frame) (number : ℕ) where
   pub stands-at : (place : ℕ) (m : Member) → member_at pool request number place ≡ Some m → (m.place ≡ place) × (pool.is_offered place ≡ false)
   stands-at place m is = by (slice_get pool.ads place) is
     where
-      parts : (live before docked won : Bool) (a : Member) → (if live && (not before && (docked && won)) then Some a else None) ≡ Some m → (a ≡ m) × (before ≡ false)
+      parts : (live before docked won : Bool) (a : Member) → (if live && (not before && (docked && won)) then Some a else None) ≡ Some m
+          → (a ≡ m) × (before ≡ false)
       parts true false true true a e = (cc, refl)
       parts true false true false a e = absurd (cc)
       parts true false false won a e = absurd (cc)
       parts true true docked won a e = absurd (cc)
       parts false before docked won a e = absurd (cc)
 
-      by : (o : Option Advert) → option_and_then (member_with pool request number place) o ≡ Some m → (m.place ≡ place) × (pool.is_offered place ≡ false)
+      by : (o : Option Advert) → option_and_then (member_with pool request number place) o ≡ Some m
+          → (m.place ≡ place) × (pool.is_offered place ≡ false)
       by None e = absurd (cc)
       by (Some a) e =
-          let p = parts (is_live pool.moment a) (pool.is_offered place) (docks pool.moment request a.ad) (is_won pool request number place a.ad) (as_member pool request place a) e in
+          let p =
+          parts (is_live pool.moment a) (pool.is_offered place) (docks pool.moment request a.ad) (is_won pool request number place a.ad)
+          (as_member pool request place a) e in
           (ap (λ (n : Member). n.place) (sym p.0), p.1)
 
-  pub first-within : (n : ℕ) (places : List ℕ) (first : Option Member) → IsBest (filter_map (member_at pool request number) places) first → All (λ place. place < n) places → IfSome first (λ m. m.place < n)
+  pub first-within : (n : ℕ) (places : List ℕ) (first : Option Member) → IsBest (filter_map (member_at pool request number) places) first
+      → All (λ place. place < n) places → IfSome first (λ m. m.place < n)
   first-within n places first is within =
       of-first pool request number (λ m. m.place < n) places first is
       (λ k d inside m e. let at = (stands-at (get_or places k d) m e).0 in let low = within k d inside in omega (arith, at, low))
 
-  pub first-free : (places : List ℕ) (first : Option Member) → IsBest (filter_map (member_at pool request number) places) first → IfSome first (λ m. pool.is_offered m.place ≡ false)
+  pub first-free : (places : List ℕ) (first : Option Member) → IsBest (filter_map (member_at pool request number) places) first
+      → IfSome first (λ m. pool.is_offered m.place ≡ false)
   first-free places first is =
       of-first pool request number (λ m. pool.is_offered m.place ≡ false) places first is
       (λ k d inside m e. let s = stands-at (get_or places k d) m e in ap pool.is_offered s.0 ∙ s.1)
 
 -- the slot of the first isn't offered
-pub slot-free : (stock : Stock) (offered : ℕ → Bool) (first : Option Member) (slot : Option ℕ) → IfSome first (λ m. offered (slot_at stock m.place) ≡ false) → slot ≡ option_map (λ m. slot_at stock m.place) first → IfSome slot (λ s. offered s ≡ false)
+pub slot-free : (stock : Stock) (offered : ℕ → Bool) (first : Option Member) (slot : Option ℕ)
+    → IfSome first (λ m. offered (slot_at stock m.place) ≡ false) → slot ≡ option_map (λ m. slot_at stock m.place) first
+    → IfSome slot (λ s. offered s ≡ false)
 slot-free stock offered first slot free at =
     let Q : Option ℕ → Type 0 = λ o. IfSome o (λ s. offered s ≡ false) in
     subst Q (sym at) (by first free)
   where
-    by : (o : Option Member) → IfSome o (λ m. offered (slot_at stock m.place) ≡ false) → IfSome (option_map (λ m. slot_at stock m.place) o) (λ s. offered s ≡ false)
+    by : (o : Option Member) → IfSome o (λ m. offered (slot_at stock m.place) ≡ false)
+        → IfSome (option_map (λ m. slot_at stock m.place) o) (λ s. offered s ≡ false)
     by None h = tt
     by (Some m) h = h

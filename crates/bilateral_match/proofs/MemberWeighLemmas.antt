@@ -1,5 +1,6 @@
 -- What one resource is for a job, and what it takes to tell.
-use Rattle.std.proofs.Common.{◌≡◌, ◌≤◌, ◌+◌, ◌*◌, ℕ, ℤ, zero, suc, Bool, true, false, not, ◌&&◌, refl, List, [], ◌∷◌, slice_get, slice_index, Option, None, Some, option_map, if◌then◌else◌, ap, sym, ◌∙◌, arith, zero-le}
+use Rattle.std.proofs.Common.{◌≡◌, ◌≤◌, ◌+◌, ◌*◌, ℕ, ℤ, zero, suc, Bool, true, false, not, ◌&&◌, refl, List, [], ◌∷◌}
+use Rattle.std.proofs.Common.{slice_get, slice_index, Option, None, Some, option_map, if◌then◌else◌, ap, sym, ◌∙◌, arith, zero-le}
 use Rattle.std.specs.Option.{option_and_then, option_map_or}
 use Rattle.ad_tree.specs.Frames.{Frame}
 use Rattle.ad_store.specs.Holdings.{Holding}
@@ -61,7 +62,8 @@ map-or : {A B C : Type 0} → (f : B → C) (g : A → B) (d : C) (o : Option A)
 map-or f g d None = refl
 map-or f g d (Some x) = refl
 
-module _ (moment : ℕ) (stock : Stock) (offered : ℕ → Bool) (holding : ℕ → Option Holding) (request : List Frame) (place slot : ℕ) (at : slice_get stock.slots place ≡ Some slot) where
+module _ (moment : ℕ) (stock : Stock) (offered : ℕ → Bool) (holding : ℕ → Option Holding) (request : List Frame) (place slot : ℕ)
+    (at : slice_get stock.slots place ≡ Some slot) where
   abbrev pool : Pool
   pool = pool_of moment stock offered holding
 
@@ -91,7 +93,9 @@ module _ (moment : ℕ) (stock : Stock) (offered : ℕ → Bool) (holding : ℕ 
 
     pub none-offered : offered slot ≡ true → (o : Option Advert) → None ≡ member_of o
     none-offered before None = refl
-    none-offered before (Some a) = sym (by (is_live pool.moment a) (pool.is_offered place) (docks pool.moment request a.ad && is_won pool request number place a.ad) (offered-here ∙ before))
+    none-offered before (Some a) =
+        sym (by (is_live pool.moment a) (pool.is_offered place) (docks pool.moment request a.ad && is_won pool request number place a.ad)
+        (offered-here ∙ before))
       where
         by : (live off rest : Bool) → off ≡ true → (if live && (not off && rest) then Some (as_member pool request place a) else None) ≡ None
         by true true rest e = refl
@@ -100,16 +104,21 @@ module _ (moment : ℕ) (stock : Stock) (offered : ℕ → Bool) (holding : ℕ 
 
     pub none-dead : (o : Option Advert) → option_map (is_live pool.moment) o ≡ Some false → None ≡ member_of o
     none-dead None e = refl
-    none-dead (Some a) e = let dead : is_live pool.moment a ≡ false = cc in sym (ap (λ (b : Bool). if b && (not (pool.is_offered place) && (docks pool.moment request a.ad && is_won pool request number place a.ad)) then Some (as_member pool request place a) else None) dead)
+    none-dead (Some a) e =
+        let dead : is_live pool.moment a ≡ false =
+        cc in sym (ap (λ (b : Bool). if b && (not (pool.is_offered place)
+        && (docks pool.moment request a.ad && is_won pool request number place a.ad)) then Some (as_member pool request place a) else None) dead)
 
     module _ (fs : List Frame) where
       none-lost : (o : Option Advert) → option_map (λ a. a.ad) o ≡ Some fs → is_won pool request number place fs ≡ false → None ≡ member_of o
       none-lost None is lost = refl
       none-lost (Some a) is lost =
           let same : a.ad ≡ fs = cc in
-          sym (by (is_live pool.moment a) (not (pool.is_offered place)) (docks pool.moment request a.ad) (is_won pool request number place a.ad) (ap (is_won pool request number place) same ∙ lost))
+          sym (by (is_live pool.moment a) (not (pool.is_offered place)) (docks pool.moment request a.ad) (is_won pool request number place a.ad)
+          (ap (is_won pool request number place) same ∙ lost))
         where
-          by : (live free docked won : Bool) → won ≡ false → (if live && (free && (docked && won)) then Some (as_member pool request place a) else None) ≡ None
+          by : (live free docked won : Bool) → won ≡ false
+              → (if live && (free && (docked && won)) then Some (as_member pool request place a) else None) ≡ None
           by true true true false e = refl
           by true true false false e = refl
           by true false docked false e = refl
@@ -123,7 +132,8 @@ module _ (moment : ℕ) (stock : Stock) (offered : ℕ → Bool) (holding : ℕ 
       abbrev made : ℤ → ℤ → ℤ → Member
       made rank given shown = record { rank = rank; preemption = preemption_of given (pool.held_in place); regard = shown; place = place }
 
-      some-won : (o : Option Advert) (r : Ranks) → option_map (λ a. a.ad) o ≡ Some fs → option_map (is_live pool.moment) o ≡ Some true → offered slot ≡ false
+      some-won : (o : Option Advert) (r : Ranks) → option_map (λ a. a.ad) o ≡ Some fs → option_map (is_live pool.moment) o ≡ Some true
+          → offered slot ≡ false
           → Some r ≡ ranks_of_dock pool.moment request fs → is_won pool request number place fs ≡ true → Some (won_with r) ≡ member_of o
       some-won None r is live free ranks won = absurd (cc)
       some-won (Some a) r is live free ranks won =
@@ -136,7 +146,8 @@ module _ (moment : ℕ) (stock : Stock) (offered : ℕ → Bool) (holding : ℕ 
           ∙ ap (λ (n : ℤ). Some (made n (regard pool.moment request fs) (regard pool.moment request fs))) (sym both.1)
           ∙ ap (λ (n : ℤ). Some (made r.rank (regard pool.moment request fs) n)) (sym both.2))
         where
-          by : (live off docked won : Bool) → live ≡ true → off ≡ false → docked ≡ true → won ≡ true → (if live && (not off && (docked && won)) then Some (as_member pool request place a) else None) ≡ Some (as_member pool request place a)
+          by : (live off docked won : Bool) → live ≡ true → off ≡ false → docked ≡ true → won ≡ true
+              → (if live && (not off && (docked && won)) then Some (as_member pool request place a) else None) ≡ Some (as_member pool request place a)
           by true false true true e f g h = refl
           by true false true false e f g h = absurd (cc)
           by true false false won e f g h = absurd (cc)
@@ -144,7 +155,8 @@ module _ (moment : ℕ) (stock : Stock) (offered : ℕ → Bool) (holding : ℕ 
           by false off docked won e f g h = absurd (cc)
 
       -- where they dock, it is a member if it is won
-      pub won-or-lost : (o : Option Advert) (r : Ranks) → option_map (λ a. a.ad) o ≡ Some fs → option_map (is_live pool.moment) o ≡ Some true → offered slot ≡ false
+      pub won-or-lost : (o : Option Advert) (r : Ranks) → option_map (λ a. a.ad) o ≡ Some fs → option_map (is_live pool.moment) o ≡ Some true
+          → offered slot ≡ false
           → Some r ≡ ranks_of_dock pool.moment request fs → where_won (won_at fs) r place ≡ member_of o
       won-or-lost o r is live free ranks = by (is_won pool request number place fs) refl
         where
@@ -165,7 +177,8 @@ module _ (moment : ℕ) (stock : Stock) (offered : ℕ → Bool) (holding : ℕ 
           both false off e f = absurd (cc)
 
       -- up to four evaluations leave one of five
-      pub four-of-five : (o : Option Advert) → option_map (λ a. a.ad) o ≡ Some fs → (if is_undecided request fs then 4 else 0) ≤ option_map_or (λ a. if is_open pool request place a then 5 else 0) o 0
+      pub four-of-five : (o : Option Advert) → option_map (λ a. a.ad) o ≡ Some fs
+          → (if is_undecided request fs then 4 else 0) ≤ option_map_or (λ a. if is_open pool request place a then 5 else 0) o 0
       four-of-five None is = absurd (cc)
       four-of-five (Some a) is = let same : a.ad ≡ fs = cc in by (is_undecided request fs) refl same
         where
@@ -189,23 +202,29 @@ module _ (moment : ℕ) (stock : Stock) (offered : ℕ → Bool) (holding : ℕ 
       abbrev holder_attributes : ℕ
       holder_attributes = option_map_or (λ h. attribute_count (holder_world moment stock h)) (holding slot) 0
 
-      weighed : (a : Advert) → a.ad ≡ fs → is_undecided request fs ≡ true → (if is_open pool request place a then attributes_weighed pool request place a else 0) ≡ job_attributes + holder_attributes
+      weighed : (a : Advert) → a.ad ≡ fs → is_undecided request fs ≡ true
+          → (if is_open pool request place a then attributes_weighed pool request place a else 0) ≡ job_attributes + holder_attributes
       weighed a same left =
           ap {B = ℕ} (λ (b : Bool). if b then attributes_weighed pool request place a else 0) (open-here a same left)
-          ∙ ap (λ (ad : List Frame). 4 * attribute_count (pair_world pool.moment request ad) + option_map_or (λ hold. attribute_count hold.world) (pool.held_in place) 0) same
-          ∙ ap (λ n. job_attributes + n) (map-or (λ (hold : Hold). attribute_count hold.world) (hold_of moment stock) 0 (holding (slot_at stock place)) ∙ ap (λ s. option_map_or (λ h. attribute_count (holder_world moment stock h)) (holding s) 0) here)
+          ∙ ap (λ (ad : List Frame). 4 * attribute_count (pair_world pool.moment request ad)
+          + option_map_or (λ hold. attribute_count hold.world) (pool.held_in place) 0) same
+          ∙ ap (λ n. job_attributes + n) (map-or (λ (hold : Hold). attribute_count hold.world) (hold_of moment stock) 0 (holding (slot_at stock place))
+          ∙ ap (λ s. option_map_or (λ h. attribute_count (holder_world moment stock h)) (holding s) 0) here)
 
       pub attributes-of-dock : (o : Option Advert) → option_map (λ a. a.ad) o ≡ Some fs
-          → (if is_undecided request fs then job_attributes else 0) ≤ option_map_or (λ a. if is_open pool request place a then attributes_weighed pool request place a else 0) o 0
+          → (if is_undecided request fs then job_attributes else 0)
+          ≤ option_map_or (λ a. if is_open pool request place a then attributes_weighed pool request place a else 0) o 0
       attributes-of-dock None is = absurd (cc)
       attributes-of-dock (Some a) is = let same : a.ad ≡ fs = cc in by (is_undecided request fs) refl same
         where
-          by : (b : Bool) → is_undecided request fs ≡ b → a.ad ≡ fs → (if b then job_attributes else 0) ≤ (if is_open pool request place a then attributes_weighed pool request place a else 0)
+          by : (b : Bool) → is_undecided request fs ≡ b → a.ad ≡ fs
+              → (if b then job_attributes else 0) ≤ (if is_open pool request place a then attributes_weighed pool request place a else 0)
           by false e same = zero-le
           by true e same = let all = weighed a same e in omega (arith, all)
 
       pub attributes-in-all : (o : Option Advert) (r : Ranks) → option_map (λ a. a.ad) o ≡ Some fs → Some r ≡ ranks_of_dock pool.moment request fs
-          → (if is_undecided request fs then job_attributes else 0) + holder_attributes ≤ option_map_or (λ a. if is_open pool request place a then attributes_weighed pool request place a else 0) o 0
+          → (if is_undecided request fs then job_attributes else 0) + holder_attributes
+          ≤ option_map_or (λ a. if is_open pool request place a then attributes_weighed pool request place a else 0) o 0
       attributes-in-all None r is ranks = absurd (cc)
       attributes-in-all (Some a) r is ranks =
           let same : a.ad ≡ fs = cc in

@@ -1,12 +1,14 @@
 -- Matches in order: there is one such list of given matches.
-use Rattle.std.proofs.Common.{◌≡◌, ◌<◌, ◌+◌, ℕ, zero, suc, zero-le, Bool, true, false, refl, List, [], ◌∷◌, length, get_or, sum_by, cond, if◌then◌else◌, All, ap, sym, ◌∙◌, arith, add-one, zero-add, ℤ, Less, Equal, Greater}
+use Rattle.std.proofs.Common.{◌≡◌, ◌<◌, ◌+◌, ℕ, zero, suc, zero-le, Bool, true, false, refl, List, [], ◌∷◌, length, get_or, sum_by, cond}
+use Rattle.std.proofs.Common.{if◌then◌else◌, All, ap, sym, ◌∙◌, arith, add-one, zero-add, ℤ, Less, Equal, Greater}
 use Rattle.std.specs.Cmp.{IsTotalOrder, IsStrictWeakOrder}
 use Rattle.std.specs.Ordering.{int_cmp, is_lt, nat_cmp, ordering_reverse, ordering_then}
 use Rattle.std.specs.declared.cmp.Ordering.{Ordering}
 use Rattle.std.specs.List.Sorted.{IsPermutation, IsSorted}
 use Rattle.std.proofs.lemmas.Cmp.{back_total, int_cmp_total, int_ranked, nat_cmp_total, on_total, ranked, then_total}
 use Rattle.std.proofs.lemmas.List.Elements.{All-cons, All-nil, All-tail}
-use Rattle.std.proofs.lemmas.List.Sorted.{All-permutation, IsPermutation-cons, IsPermutation-middle, IsPermutation-refl, IsPermutation-trans, ranks_by, sorted_far}
+use Rattle.std.proofs.lemmas.List.Sorted.{All-permutation, IsPermutation-cons, IsPermutation-middle, IsPermutation-refl, IsPermutation-trans, ranks_by}
+use Rattle.std.proofs.lemmas.List.Sorted.{sorted_far}
 use Rattle.std.proofs.lemmas.List.Sums.{sum_by-cons}
 use Rattle.bilateral_match.specs.declared.hit.Match.{Match}
 use Rattle.bilateral_match.specs.Answers.{arranged, entered, match_order}
@@ -32,7 +34,8 @@ not_after-itself a = by (is_lt (match_order a a)) refl
 
 -- two matches of which neither is before the other are one
 ties-are-one : (a b : Match) → is_lt (match_order a b) ≡ false → is_lt (match_order b a) ≡ false → a ≡ b
-ties-are-one a b h k = by_rank (int_cmp b.rank a.rank) (nat_cmp a.place b.place) refl refl h (turned (match_order a b) (match_order b a) (match_total.antisymm b a) k)
+ties-are-one a b h k =
+    by_rank (int_cmp b.rank a.rank) (nat_cmp a.place b.place) refl refl h (turned (match_order a b) (match_order b a) (match_total.antisymm b a) k)
   where
     turned : (r s : Ordering) → s ≡ ordering_reverse r → is_lt s ≡ false → r ≡ Greater → ⊥
     turned r s e f g = let same : s ≡ Less = e ∙ ap ordering_reverse g in let other : true ≡ false = sym (ap is_lt same) ∙ f in cc
@@ -42,7 +45,8 @@ ties-are-one a b h k = by_rank (int_cmp b.rank a.rank) (nat_cmp a.place b.place)
         ap (λ (p : ℕ). let m : Match = record { place = p; rank = a.rank } in m) places
         ∙ ap (λ (r : ℤ). let m : Match = record { place = b.place; rank = r } in m) (sym ranks)
 
-    by_rank : (r s : Ordering) → int_cmp b.rank a.rank ≡ r → nat_cmp a.place b.place ≡ s → is_lt (ordering_then r s) ≡ false → (ordering_then r s ≡ Greater → ⊥) → a ≡ b
+    by_rank : (r s : Ordering) → int_cmp b.rank a.rank ≡ r → nat_cmp a.place b.place ≡ s → is_lt (ordering_then r s) ≡ false
+        → (ordering_then r s ≡ Greater → ⊥) → a ≡ b
     by_rank Less s ranks places f g = absurd (cc)
     by_rank Greater s ranks places f g = absurd (g refl)
     by_rank Equal Less ranks places f g = absurd (cc)
@@ -55,7 +59,8 @@ abbrev pub InOrder : List Match → Type 0
 InOrder [] = Unit {0}
 InOrder (m ∷ ms) = All (NotAfter m) ms × InOrder ms
 
-adjacent : (ms : List Match) → InOrder ms → (k : ℕ) (d : Match) → suc k < length ms → is_lt (match_order (get_or ms (suc k) d) (get_or ms k d)) ≡ false
+adjacent : (ms : List Match) → InOrder ms → (k : ℕ) (d : Match) → suc k < length ms
+    → is_lt (match_order (get_or ms (suc k) d) (get_or ms k d)) ≡ false
 adjacent [] h k d within = absurd (omega (arith, within))
 adjacent (m ∷ ms) h zero d within = h.0 0 d (omega (arith, within))
 adjacent (m ∷ ms) h (suc k) d within = adjacent ms h.1 k d (omega (arith, within))
@@ -70,7 +75,10 @@ tail-sorted m ms h k d low within =
 
 pub in-order-from : (ms : List Match) → IsSorted match_order ms → InOrder ms
 in-order-from [] h = tt
-in-order-from (m ∷ ms) h = (λ k d within. sorted_far (λ a b. is_lt (match_order a b)) match_weak (m ∷ ms) h 0 (suc k) d zero-le (omega (arith, within)), in-order-from ms (tail-sorted m ms h))
+in-order-from (m ∷ ms) h = (
+  λ k d within. sorted_far (λ a b. is_lt (match_order a b)) match_weak (m ∷ ms) h 0 (suc k) d zero-le (omega (arith, within)),
+  in-order-from ms (tail-sorted m ms h),
+)
 
 -- ---- one more match
 
@@ -80,12 +88,15 @@ entered-permutation m (o ∷ os) = by (entered-permutation m os) (is_lt (match_o
   where
     by : IsPermutation (m ∷ os) (entered m os) → (b : Bool) → IsPermutation (m ∷ o ∷ os) (if b then m ∷ o ∷ os else o ∷ entered m os)
     by behind true = IsPermutation-refl (m ∷ o ∷ os)
-    by behind false = IsPermutation-trans (m ∷ o ∷ os) (o ∷ m ∷ os) (o ∷ entered m os) (IsPermutation-middle (m ∷ []) o os) (IsPermutation-cons o (m ∷ os) (entered m os) behind)
+    by behind false =
+        IsPermutation-trans (m ∷ o ∷ os) (o ∷ m ∷ os) (o ∷ entered m os) (IsPermutation-middle (m ∷ []) o os)
+        (IsPermutation-cons o (m ∷ os) (entered m os) behind)
 
 pub arranged-permutation : (ms : List Match) → IsPermutation ms (arranged ms)
 arranged-permutation [] = IsPermutation-refl []
 arranged-permutation (m ∷ ms) =
-    IsPermutation-trans (m ∷ ms) (m ∷ arranged ms) (entered m (arranged ms)) (IsPermutation-cons m ms (arranged ms) (arranged-permutation ms)) (entered-permutation m (arranged ms))
+    IsPermutation-trans (m ∷ ms) (m ∷ arranged ms) (entered m (arranged ms)) (IsPermutation-cons m ms (arranged ms) (arranged-permutation ms))
+    (entered-permutation m (arranged ms))
 
 entered-in-order : (m : Match) (ms : List Match) → InOrder ms → InOrder (entered m ms)
 entered-in-order m [] h = (All-nil (NotAfter m), tt)

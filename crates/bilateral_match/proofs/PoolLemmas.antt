@@ -1,5 +1,6 @@
 -- Pools that say the same of each place have the same members, and as many open docks.
-use Rattle.std.proofs.Common.{◌≡◌, ◌<◌, ◌+◌, ℕ, suc, Bool, not, ◌&&◌, refl, List, [], ◌∷◌, Option, None, Some, if◌then◌else◌, length, ap, sym, ◌∙◌, subst, arith, zero-add}
+use Rattle.std.proofs.Common.{◌≡◌, ◌<◌, ◌+◌, ℕ, suc, Bool, not, ◌&&◌, refl, List, [], ◌∷◌, Option, None, Some, if◌then◌else◌}
+use Rattle.std.proofs.Common.{length, ap, sym, ◌∙◌, subst, arith, zero-add}
 use Rattle.std.specs.List.{cons_option}
 use Rattle.ad_tree.specs.Frames.{Frame}
 use Rattle.ad_store.specs.Stock.{Advert, is_live}
@@ -30,13 +31,23 @@ module _ (moment : ℕ) (ads : List Advert) (request : List Frame) (off_a off_b 
   -- a resource as a member, by what is said of it
   abbrev member_by : ℕ → ℕ → Advert → Bool → Option Hold → Option Member
   member_by number place a offered held =
-      let m : Member = record { rank = rank_of_dock moment request a.ad; preemption = preemption_of (regard moment request a.ad) held; regard = regard moment request a.ad; place = place } in
+      let m : Member =
+      record {
+        rank =
+            rank_of_dock moment request a.ad;
+        preemption =
+            preemption_of (regard moment request a.ad) held;
+        regard = regard moment request a.ad;
+        place = place;
+      } in
       if is_live moment a && (not offered && (docks moment request a.ad && is_yielded number (regard moment request a.ad) held)) then Some m else None
 
   member-same : (number place : ℕ) (a : Advert) → SameAt place → member_with one request number place a ≡ member_with other request number place a
-  member-same number place a same = ap (λ offered. member_by number place a offered (held_a place)) same.0 ∙ ap (member_by number place a (off_b place)) same.1
+  member-same number place a same =
+      ap (λ offered. member_by number place a offered (held_a place)) same.0 ∙ ap (member_by number place a (off_b place)) same.1
 
-  members-same : (number k : ℕ) (xs : List Advert) → ((i : ℕ) → i < length xs → SameAt (k + i)) → members_from one request number k xs ≡ members_from other request number k xs
+  members-same : (number k : ℕ) (xs : List Advert) → ((i : ℕ) → i < length xs → SameAt (k + i))
+      → members_from one request number k xs ≡ members_from other request number k xs
   members-same number k [] same = refl
   members-same number k (a ∷ xs) same =
       let here : SameAt k = subst SameAt (at-front k) (same 0 (omega arith)) in
@@ -48,7 +59,8 @@ module _ (moment : ℕ) (ads : List Advert) (request : List Frame) (off_a off_b 
   best-same number same = ap first_of (members-same number 0 ads (λ i inside. subst SameAt (sym (zero-add i)) (same i inside)))
 
   sum-same : (k : ℕ) (xs : List Advert) → ((i : ℕ) → i < length xs → SameAt (k + i))
-      → sum_from (λ place a. if is_open one request place a then 1 else 0) k xs ≡ sum_from (λ place a. if is_open other request place a then 1 else 0) k xs
+      → sum_from (λ place a. if is_open one request place a then 1 else 0) k xs
+      ≡ sum_from (λ place a. if is_open other request place a then 1 else 0) k xs
   sum-same k [] same = refl
   sum-same k (a ∷ xs) same =
       let here : SameAt k = subst SameAt (at-front k) (same 0 (omega arith)) in

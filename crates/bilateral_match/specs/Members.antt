@@ -1,5 +1,6 @@
 -- The members for a single job: the resources that it may be given. The best of them.
-use Rattle.std.specs.Prelude.{◌≡◌, ℕ, ℤ, suc, Bool, false, not, ◌&&◌, List, [], ◌∷◌, Option, None, Some, option_map, All, Contains, if◌then◌else◌}
+use Rattle.std.specs.Prelude.{◌≡◌, ℕ, ℤ, suc, Bool, false, not, ◌&&◌, List, [], ◌∷◌, Option, None, Some, option_map, All, Contains}
+use Rattle.std.specs.Prelude.{if◌then◌else◌}
 use Rattle.std.specs.List.{cons_option}
 use Rattle.std.specs.Ordering.{int_cmp, is_lt, nat_cmp, ordering_then}
 use Rattle.std.specs.declared.cmp.Ordering.{Ordering}

@@ -34,7 +34,8 @@ ranks_in w = if is_docked w then Some (record { rank = rank_by w (request_side w
 
 -- what the sides rank each other where they dock
 abbrev pub ranks_of_dock : ℕ → List Frame → List Frame → Option Ranks
-ranks_of_dock moment request ad = if docks moment request ad then Some (record { rank = rank_of_dock moment request ad; regard = regard moment request ad }) else None
+ranks_of_dock moment request ad =
+    if docks moment request ad then Some (record { rank = rank_of_dock moment request ad; regard = regard moment request ad }) else None
 
 -- a resource as members are compared, and none where it isn't won
 abbrev pub as_member : Ranks → ℕ → Preemption → Member
@@ -66,4 +67,5 @@ abbrev pub evaluations_for : Pool → List Frame → ℕ → ℕ
 evaluations_for pool request place = option_map_or (λ advert. if is_open pool request place advert then 5 else 0) (slice_get pool.ads place) 0
 
 abbrev pub attributes_for : Pool → List Frame → ℕ → ℕ
-attributes_for pool request place = option_map_or (λ advert. if is_open pool request place advert then attributes_weighed pool request place advert else 0) (slice_get pool.ads place) 0
+attributes_for pool request place =
+    option_map_or (λ advert. if is_open pool request place advert then attributes_weighed pool request place advert else 0) (slice_get pool.ads place) 0

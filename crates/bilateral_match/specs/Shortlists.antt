@@ -21,4 +21,5 @@ IsShortlist moment stock is_offered holding request number slots =
 
 -- the slots of these members in order
 abbrev pub AreInOrder : Stock → List Member → List ℕ → Type 0
-AreInOrder stock found slots = (sorted : List Member) × IsPermutation found sorted × IsSorted member_order sorted × (slots ≡ map (λ m. slot_at stock m.place) sorted)
+AreInOrder stock found slots =
+    (sorted : List Member) × IsPermutation found sorted × IsSorted member_order sorted × (slots ≡ map (λ m. slot_at stock m.place) sorted)

@@ -66,7 +66,8 @@ pub fn best<H: Holdings, F: Ledger, E: Ledger, T: Ledger>(
         + 5 * open_count (pool_of moment (stock_of store.now) (H.is_offered held.now) (H.holding held.now)) (ad_frames request.now.ad) }
     ensures entries { entry.new ≤ entry.old
         + entered_for (pool_of moment (stock_of store.now) (H.is_offered held.now) (H.holding held.now)) (ad_frames request.now.ad) }
-    ensures ratio { IsSmall (ad_frames request.now.ad) → AreSmallAds (stock_of store.now).ads → AreSmallHolders (H.holding held.now) → entry.new + 9216 * tops.old ≤ entry.old + 9216 * tops.new }
+    ensures ratio { IsSmall (ad_frames request.now.ad) → AreSmallAds (stock_of store.now).ads → AreSmallHolders (H.holding held.now)
+        → entry.new + 9216 * tops.old ≤ entry.old + 9216 * tops.new }
     ensures looks { touch.new ≤ touch.old
         + 9 * least_left (stock_of store.now).ads (tests_of (ad_frames request.now.ad) 0 []) }
 {
@@ -110,7 +111,8 @@ pub fn best_knowing<H: Holdings, F: Ledger, E: Ledger, T: Ledger>(
         + 5 * open_count (pool_of moment (stock_of store.now) (H.is_offered held.now) (H.holding held.now)) (ad_frames request.now.ad) }
     ensures entries { entry.new ≤ entry.old
         + entered_for (pool_of moment (stock_of store.now) (H.is_offered held.now) (H.holding held.now)) (ad_frames request.now.ad) }
-    ensures ratio { IsSmall (ad_frames request.now.ad) → AreSmallAds (stock_of store.now).ads → AreSmallHolders (H.holding held.now) → entry.new + 9216 * tops.old ≤ entry.old + 9216 * tops.new }
+    ensures ratio { IsSmall (ad_frames request.now.ad) → AreSmallAds (stock_of store.now).ads → AreSmallHolders (H.holding held.now)
+        → entry.new + 9216 * tops.old ≤ entry.old + 9216 * tops.new }
     ensures looks { touch.new ≤ touch.old
         + 9 * least_left (stock_of store.now).ads (tests_of (ad_frames request.now.ad) 0 []) }
     ensures saved { touch.new + looks.new.saved ≤ touch.old + looks.old.saved
@@ -167,10 +169,15 @@ fn first_at<H: Holdings, F: Ledger, E: Ledger, T: Ledger>(
     requires places { All (λ place. place < length (stock_of store.now).slots) places.now }
     requires ranks { AreRanks moment (stock_of store.now).ads (rank_expr (ad_frames request.now.ad)) ranking.old.ranks.items }
     ensures ranks { AreRanks moment (stock_of store.now).ads (rank_expr (ad_frames request.now.ad)) ranking.new.ranks.items }
-    ensures first { IfOk result (λ first. IsBest (filter_map (scan.member_at (pool_of moment (stock_of store.now) (H.is_offered held.now) (H.holding held.now)) (ad_frames request.now.ad) number) places.now) first) }
-    ensures evaluations { tops.new ≤ tops.old + sum_by (scan.evaluations_for (pool_of moment (stock_of store.now) (H.is_offered held.now) (H.holding held.now)) (ad_frames request.now.ad)) places.now }
-    ensures entries { entry.new ≤ entry.old + sum_by (scan.attributes_for (pool_of moment (stock_of store.now) (H.is_offered held.now) (H.holding held.now)) (ad_frames request.now.ad)) places.now }
-    ensures ratio { IsSmall (ad_frames request.now.ad) → AreSmallAds (stock_of store.now).ads → AreSmallHolders (H.holding held.now) → entry.new + 9216 * tops.old ≤ entry.old + 9216 * tops.new }
+    ensures first { IfOk result (λ first. IsBest (filter_map
+        (scan.member_at (pool_of moment (stock_of store.now) (H.is_offered held.now) (H.holding held.now)) (ad_frames request.now.ad) number) places.now)
+        first) }
+    ensures evaluations { tops.new ≤ tops.old + sum_by (scan.evaluations_for (pool_of moment (stock_of store.now) (H.is_offered held.now) (H.holding held.now))
+        (ad_frames request.now.ad)) places.now }
+    ensures entries { entry.new ≤ entry.old + sum_by (scan.attributes_for (pool_of moment (stock_of store.now) (H.is_offered held.now) (H.holding held.now))
+        (ad_frames request.now.ad)) places.now }
+    ensures ratio { IsSmall (ad_frames request.now.ad) → AreSmallAds (stock_of store.now).ads → AreSmallHolders (H.holding held.now)
+        → entry.new + 9216 * tops.old ≤ entry.old + 9216 * tops.new }
     ensures looks { touch.new ≤ touch.old + 9 * length places.now }
     ensures saved { touch.new + looks.new.saved ≤ touch.old + looks.old.saved + 9 * length places.now }
 {
@@ -207,10 +214,14 @@ fn next_at<H: Holdings, F: Ledger, E: Ledger, T: Ledger>(
     requires place { place < length (stock_of store.now).slots }
     requires ranks { AreRanks moment (stock_of store.now).ads (rank_expr (ad_frames request.now.ad)) ranking.old.ranks.items }
     ensures ranks { AreRanks moment (stock_of store.now).ads (rank_expr (ad_frames request.now.ad)) ranking.new.ranks.items }
-    ensures member { IfOk result (λ member. member ≡ scan.member_above bar (scan.member_at (pool_of moment (stock_of store.now) (H.is_offered held.now) (H.holding held.now)) (ad_frames request.now.ad) number place)) }
-    ensures evaluations { tops.new ≤ tops.old + scan.evaluations_for (pool_of moment (stock_of store.now) (H.is_offered held.now) (H.holding held.now)) (ad_frames request.now.ad) place }
-    ensures entries { entry.new ≤ entry.old + scan.attributes_for (pool_of moment (stock_of store.now) (H.is_offered held.now) (H.holding held.now)) (ad_frames request.now.ad) place }
-    ensures ratio { IsSmall (ad_frames request.now.ad) → AreSmallAds (stock_of store.now).ads → AreSmallHolders (H.holding held.now) → entry.new + 9216 * tops.old ≤ entry.old + 9216 * tops.new }
+    ensures member { IfOk result (λ member. member ≡ scan.member_above bar (scan.member_at
+        (pool_of moment (stock_of store.now) (H.is_offered held.now) (H.holding held.now)) (ad_frames request.now.ad) number place)) }
+    ensures evaluations { tops.new ≤ tops.old + scan.evaluations_for (pool_of moment (stock_of store.now) (H.is_offered held.now)
+        (H.holding held.now)) (ad_frames request.now.ad) place }
+    ensures entries { entry.new ≤ entry.old + scan.attributes_for (pool_of moment (stock_of store.now) (H.is_offered held.now) (H.holding held.now)) (ad_frames
+        request.now.ad) place }
+    ensures ratio { IsSmall (ad_frames request.now.ad) → AreSmallAds (stock_of store.now).ads → AreSmallHolders (H.holding held.now)
+        → entry.new + 9216 * tops.old ≤ entry.old + 9216 * tops.new }
     ensures looks { touch.new ≤ touch.old + 9 }
     ensures saved { touch.new + looks.new.saved ≤ touch.old + looks.old.saved + 9 }
 {

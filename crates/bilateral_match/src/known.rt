@@ -136,7 +136,8 @@ impl Known {
     // Where a request stands whose rank has the expression of this one.
     fn place_of(&self, request: &Ad) -> Option<usize>
         ensures within { IfSome result (λ k. k < length self.now.kept.items) }
-        ensures same { IfSome result (λ k. (kept : Kept) → slice_get self.now.kept.items k ≡ Some kept → rank_expr (ad_frames kept.ad) ≡ rank_expr (ad_frames request.now)) }
+        ensures same { IfSome result (λ k. (kept : Kept) → slice_get self.now.kept.items k ≡ Some kept
+            → rank_expr (ad_frames kept.ad) ≡ rank_expr (ad_frames request.now)) }
     {
         for k in 0..self.kept.len() {
             if has_same_rank(&self.kept[k].ad, request) {

@@ -1,5 +1,6 @@
 -- Values that are the same up to the places of ads, and what operators give of such values.
-use Rattle.std.proofs.Common.{◌≡◌, ℕ, zero, suc, ◌+◌, ◌^◌, ◌/◌, Bool, true, false, not, ◌&&◌, ◌||◌, cond, ltb, ℤ, pos, negsuc, neg_ℤ, List, [], ◌∷◌, length, take, drop, Option, None, Some, option_map, slice_get, refl, ◌∙◌, ap}
+use Rattle.std.proofs.Common.{◌≡◌, ℕ, zero, suc, ◌+◌, ◌^◌, ◌/◌, Bool, true, false, not, ◌&&◌, ◌||◌, cond, ltb, ℤ, pos, negsuc, neg_ℤ, List, [], ◌∷◌, length}
+use Rattle.std.proofs.Common.{take, drop, Option, None, Some, option_map, slice_get, refl, ◌∙◌, ap}
 use Rattle.std.specs.Prelude.{◌==◌, ◌+ℤ◌, ◌-ℤ◌, ◌*ℤ◌, int_div, int_rem, unwrap_or}
 use Rattle.std.specs.Int.{w64, cast_signed, cast_unsigned, int_shl, int_shr}
 use Rattle.std.specs.Ordering.{int_eq}
@@ -12,7 +13,8 @@ use Rattle.ad_value.specs.Plain.{Plain, undefined, error, boolean, integer, deci
 use Rattle.ad_value.specs.Logic.{and_is_decided, and_value, or_is_decided, or_value}
 use Rattle.ad_value.specs.declared.number.Number.{Number}
 use Rattle.ad_value.specs.Numbers.{decimal_or_error, in_millionths, integer_or_error, million, number_of, number_value}
-use Rattle.ad_value.specs.Operators.{binary_value, complement, decimal_row, divided, integer_row, is_same, are_same, negated_value, negation, number_row, on_number, on_numbers, shifted, strict, strict_row, text_row, unary_row, unary_value, weight_of, weights_of}
+use Rattle.ad_value.specs.Operators.{binary_value, complement, decimal_row, divided, integer_row, is_same, are_same, negated_value, negation, number_row}
+use Rattle.ad_value.specs.Operators.{on_number, on_numbers, shifted, strict, strict_row, text_row, unary_row, unary_value, weight_of, weights_of}
 use Rattle.ad_value.specs.Limits.{bounded, weight_limit}
 use Rattle.ad_value.specs.Demands.{all_demanded, chosen, conjunction, disjunction, element, list_value, selected, subscripted}
 
@@ -33,7 +35,8 @@ pub Both-map : {A B C D : Type 0} {R : A → B → Type 0} (S : C → D → Type
 Both-map S f g h both_none = both_none
 Both-map S f g h (both_some {a = a} {b = b} r) = both_some (h a b r)
 
-pub Both-then : {A B C D : Type 0} {R : A → B → Type 0} (S : C → D → Type 0) (f : A → Option C) (g : B → Option D) → ((a : A) (b : B) → R a b → Both S (f a) (g b))
+pub Both-then : {A B C D : Type 0} {R : A → B → Type 0} (S : C → D → Type 0) (f : A → Option C) (g : B → Option D)
+    → ((a : A) (b : B) → R a b → Both S (f a) (g b))
     → {o : Option A} {p : Option B} → Both R o p → Both S (option_and_then f o) (option_and_then g p)
 Both-then S f g h both_none = both_none
 Both-then S f g h (both_some {a = a} {b = b} r) = h a b r
@@ -328,21 +331,24 @@ module _ {M : AdPlace → AdPlace → Type 0} where
   either-both true false same h k = absurd (cc)
   either-both false true same h k = absurd (cc)
 
-  pub conjunction-alike : {v w : Plain} {rs qs : List (Option Plain)} → Alike M v w → Each (Both (Alike M)) rs qs → Both (Alike M) (conjunction v rs) (conjunction w qs)
+  pub conjunction-alike : {v w : Plain} {rs qs : List (Option Plain)} → Alike M v w → Each (Both (Alike M)) rs qs
+      → Both (Alike M) (conjunction v rs) (conjunction w qs)
   conjunction-alike h no_items = both_some h
   conjunction-alike {v} {w} h (more_items {xs = rs} {ys = qs} r others) =
       either-both (and_is_decided v) (and_is_decided w) (and_is_decided-alike h) (both_some h)
       (Both-then (Alike M) (λ p. conjunction (and_value v p) rs) (λ q. conjunction (and_value w q) qs)
       (λ p q k. conjunction-alike (flat-alike (and_value v p) (and_value w q) (and-flat v p) (and-same h k)) others) r)
 
-  pub disjunction-alike : {v w : Plain} {rs qs : List (Option Plain)} → Alike M v w → Each (Both (Alike M)) rs qs → Both (Alike M) (disjunction v rs) (disjunction w qs)
+  pub disjunction-alike : {v w : Plain} {rs qs : List (Option Plain)} → Alike M v w → Each (Both (Alike M)) rs qs
+      → Both (Alike M) (disjunction v rs) (disjunction w qs)
   disjunction-alike h no_items = both_some h
   disjunction-alike {v} {w} h (more_items {xs = rs} {ys = qs} r others) =
       either-both (or_is_decided v) (or_is_decided w) (or_is_decided-alike h) (both_some h)
       (Both-then (Alike M) (λ p. disjunction (or_value v p) rs) (λ q. disjunction (or_value w q) qs)
       (λ p q k. disjunction-alike (flat-alike (or_value v p) (or_value w q) (or-flat v p) (or-same h k)) others) r)
 
-  pub chosen-alike : {a b c d : Option Plain} {v w : Plain} → Both (Alike M) a b → Both (Alike M) c d → Alike M v w → Both (Alike M) (chosen a c v) (chosen b d w)
+  pub chosen-alike : {a b c d : Option Plain} {v w : Plain} → Both (Alike M) a b → Both (Alike M) c d → Alike M v w
+      → Both (Alike M) (chosen a c v) (chosen b d w)
   chosen-alike h k (booleans true) = h
   chosen-alike h k (booleans false) = k
   chosen-alike h k undefineds = both_some undefineds

@@ -22,8 +22,11 @@ use Rattle.builtin_funcs.specs.Functions.{function_named}
 use Rattle.builtin_funcs.specs.Kinds.{is_decimal, is_error, is_scalar, is_undefined}
 use Rattle.builtin_funcs.specs.Lists.{all_compare_value, any_compare_value, comparison_named, compares, identical_member_value, member_value}
 use Rattle.builtin_funcs.specs.Rows.{chosen, row_of, row_of_none, row_of_one, row_of_three, row_of_two, size_value}
-use Rattle.builtin_funcs.specs.Texts.{bool_value, boolean_in, int_value, integer_in, on_text, part_value, strcat_value, strcmp_value, stricmp_value, string_list_member_value, string_list_size_value, string_value, tail_value, usual_delimiters, written}
-use Rattle.builtin_funcs.proofs.AlikeLemmas.{Each, no_items, more_items, Each-all, Each-any, Each-drop, Each-length, Each-take, Alike, undefineds, errors, booleans, integers, texts, lists, places, IsOneToOne, is_flat, binary-same, bounded-alike, decimal_or_error-flat, either-flat, elements-alike, flat-alike, integer_or_error-flat, number-alike, on_number-flat, same-alike}
+use Rattle.builtin_funcs.specs.Texts.{bool_value, boolean_in, int_value, integer_in, on_text, part_value, strcat_value, strcmp_value, stricmp_value}
+use Rattle.builtin_funcs.specs.Texts.{string_list_member_value, string_list_size_value, string_value, tail_value, usual_delimiters, written}
+use Rattle.builtin_funcs.proofs.AlikeLemmas.{Each, no_items, more_items, Each-all, Each-any, Each-drop, Each-length, Each-take, Alike, undefineds, errors}
+use Rattle.builtin_funcs.proofs.AlikeLemmas.{booleans, integers, texts, lists, places, IsOneToOne, is_flat, binary-same, bounded-alike, decimal_or_error-flat}
+use Rattle.builtin_funcs.proofs.AlikeLemmas.{either-flat, elements-alike, flat-alike, integer_or_error-flat, number-alike, on_number-flat, same-alike}
 
 -- ---- rows hold no place
 
@@ -49,7 +52,8 @@ greatest-flat value h ns = chosen-flat value h (chosen_of int_max ns)
 total-flat : (value : ℤ → Plain) → ((z : ℤ) → is_flat (value z) ≡ true) → (ns : List ℤ) → is_flat (total value ns) ≡ true
 total-flat value h ns = h (fold ◌+ℤ◌ (pos 0) ns)
 
-aggregate-flat : (row : (ℤ → Plain) → List ℤ → Plain) → ((value : ℤ → Plain) → ((z : ℤ) → is_flat (value z) ≡ true) → (ns : List ℤ) → is_flat (row value ns) ≡ true)
+aggregate-flat : (row : (ℤ → Plain) → List ℤ → Plain)
+    → ((value : ℤ → Plain) → ((z : ℤ) → is_flat (value z) ≡ true) → (ns : List ℤ) → is_flat (row value ns) ≡ true)
     → (v : Plain) → is_flat (on_list (aggregate row) v) ≡ true
 aggregate-flat row h (list items) =
     let decimals = list_any is_decimal (elements items) in
@@ -64,7 +68,8 @@ on_text-flat row h v = refl
 
 integer_in-flat : (bytes : List ℕ) → is_flat (integer_in bytes) ≡ true
 integer_in-flat bytes =
-    either-flat (nat_lt 0 (length (without_leading_sign bytes)) && all_ascii_digits (without_leading_sign bytes)) (integer_or_error (signed_digits_value 10 bytes)) error
+    either-flat (nat_lt 0 (length (without_leading_sign bytes)) && all_ascii_digits (without_leading_sign bytes))
+    (integer_or_error (signed_digits_value 10 bytes)) error
     (integer_or_error-flat (signed_digits_value 10 bytes)) refl
 
 int-flat : (v : Plain) → is_flat (int_value v) ≡ true
@@ -199,7 +204,8 @@ module _ {M : AdPlace → AdPlace → Type 0} where
 
   amounts-same : (decimals : Bool) {vs ws : List Plain} → Each (Alike M) vs ws → filter_map (amount_of decimals) vs ≡ filter_map (amount_of decimals) ws
   amounts-same decimals no_items = refl
-  amounts-same decimals (more_items {a = v} {b = w} {xs = vs} {ys = ws} h hs) = by (amount_of decimals v) (amount_of decimals w) (amount-same decimals h) (amounts-same decimals hs)
+  amounts-same decimals (more_items {a = v} {b = w} {xs = vs} {ys = ws} h hs) =
+      by (amount_of decimals v) (amount_of decimals w) (amount-same decimals h) (amounts-same decimals hs)
     where
       by : (o p : Option ℤ) → o ≡ p → filter_map (amount_of decimals) vs ≡ filter_map (amount_of decimals) ws
           → cons_option o (filter_map (amount_of decimals) vs) ≡ cons_option p (filter_map (amount_of decimals) ws)
@@ -207,13 +213,17 @@ module _ {M : AdPlace → AdPlace → Type 0} where
 
   all_written-same : {vs ws : List Plain} → Each (Alike M) vs ws → flat_map written vs ≡ flat_map written ws
   all_written-same no_items = refl
-  all_written-same (more_items {a = v} {b = w} {xs = vs} {ys = ws} h hs) = ap (λ x. x ++ flat_map written vs) (written-same h) ∙ ap (λ x. written w ++ x) (all_written-same hs)
+  all_written-same (more_items {a = v} {b = w} {xs = vs} {ys = ws} h hs) =
+      ap (λ x. x ++ flat_map written vs) (written-same h) ∙ ap (λ x. written w ++ x) (all_written-same hs)
 
   aggregate-same : (row : (ℤ → Plain) → List ℤ → Plain) {vs ws : List Plain} → Each (Alike M) vs ws → aggregate row vs ≡ aggregate row ws
   aggregate-same row {vs} {ws} hs =
-      ap (λ b. cond (not b) error (cond (list_any is_undefined vs) undefined (row_in row (list_any is_decimal vs) vs))) (Each-all may_be_number may_be_number (λ v w h. may_be_number-same h) hs)
-      ∙ ap (λ b. cond (not (list_all may_be_number ws)) error (cond b undefined (row_in row (list_any is_decimal vs) vs))) (Each-any is_undefined is_undefined (λ v w h. undefined-same h) hs)
-      ∙ ap (λ b. cond (not (list_all may_be_number ws)) error (cond (list_any is_undefined ws) undefined (row_in row b vs))) (Each-any is_decimal is_decimal (λ v w h. decimal-same h) hs)
+      ap (λ b. cond (not b) error (cond (list_any is_undefined vs) undefined (row_in row (list_any is_decimal vs) vs)))
+      (Each-all may_be_number may_be_number (λ v w h. may_be_number-same h) hs)
+      ∙ ap (λ b. cond (not (list_all may_be_number ws)) error (cond b undefined (row_in row (list_any is_decimal vs) vs)))
+      (Each-any is_undefined is_undefined (λ v w h. undefined-same h) hs)
+      ∙ ap (λ b. cond (not (list_all may_be_number ws)) error (cond (list_any is_undefined ws) undefined (row_in row b vs)))
+      (Each-any is_decimal is_decimal (λ v w h. decimal-same h) hs)
       ∙ ap (λ ns. cond (not (list_all may_be_number ws)) error (cond (list_any is_undefined ws) undefined (row (value_in (list_any is_decimal ws)) ns)))
       (amounts-same (list_any is_decimal ws) hs)
 
@@ -287,7 +297,8 @@ module _ {M : AdPlace → AdPlace → Type 0} (one : IsOneToOne M) where
   member-same : {a b c d : Plain} → Alike M a b → Alike M c d → member_value a c ≡ member_value b d
   member-same {a} {b} h (lists {l = l} {m = m} ks) =
       ap (λ x. cond x (boolean (list_any (compares BinOp.Equal a) (elements l))) error) (scalar-same h)
-      ∙ ap (λ x. cond (is_scalar b) (boolean x) error) (Each-any (compares BinOp.Equal a) (compares BinOp.Equal b) (λ v w k. compares-same BinOp.Equal h k) (elements-alike ks))
+      ∙ ap (λ x. cond (is_scalar b) (boolean x) error) (Each-any (compares BinOp.Equal a) (compares BinOp.Equal b) (λ v w k. compares-same BinOp.Equal h k)
+      (elements-alike ks))
   member-same h k = refl
 
   identical_member-same : {a b c d : Plain} → Alike M a b → Alike M c d → identical_member_value a c ≡ identical_member_value b d
@@ -297,7 +308,9 @@ module _ {M : AdPlace → AdPlace → Type 0} (one : IsOneToOne M) where
   any_compare-same : {a b c d e g : Plain} → Alike M a b → Alike M c d → Alike M e g → any_compare_value a c e ≡ any_compare_value b d g
   any_compare-same {e = e} {g = g} (texts spelling) (lists {l = l} {m = m} ks) x = by (comparison_named spelling)
     where
-      by : (o : Option BinOp) → option_map_or (λ op. boolean (list_any (λ v. compares op v e) (elements l))) o error ≡ option_map_or (λ op. boolean (list_any (λ v. compares op v g) (elements m))) o error
+      by : (o : Option BinOp)
+          → option_map_or (λ op. boolean (list_any (λ v. compares op v e) (elements l))) o error
+          ≡ option_map_or (λ op. boolean (list_any (λ v. compares op v g) (elements m))) o error
       by None = refl
       by (Some op) = ap boolean (Each-any (λ v. compares op v e) (λ v. compares op v g) (λ v w k. compares-same op k x) (elements-alike ks))
   any_compare-same (texts spelling) k x = refl
@@ -306,7 +319,9 @@ module _ {M : AdPlace → AdPlace → Type 0} (one : IsOneToOne M) where
   all_compare-same : {a b c d e g : Plain} → Alike M a b → Alike M c d → Alike M e g → all_compare_value a c e ≡ all_compare_value b d g
   all_compare-same {e = e} {g = g} (texts spelling) (lists {l = l} {m = m} ks) x = by (comparison_named spelling)
     where
-      by : (o : Option BinOp) → option_map_or (λ op. boolean (list_all (λ v. compares op v e) (elements l))) o error ≡ option_map_or (λ op. boolean (list_all (λ v. compares op v g) (elements m))) o error
+      by : (o : Option BinOp)
+          → option_map_or (λ op. boolean (list_all (λ v. compares op v e) (elements l))) o error
+          ≡ option_map_or (λ op. boolean (list_all (λ v. compares op v g) (elements m))) o error
       by None = refl
       by (Some op) = ap boolean (Each-all (λ v. compares op v e) (λ v. compares op v g) (λ v w k. compares-same op k x) (elements-alike ks))
   all_compare-same (texts spelling) k x = refl
@@ -324,8 +339,10 @@ module _ {M : AdPlace → AdPlace → Type 0} (one : IsOneToOne M) where
 
   three-alike : (f : Function) {a b c d e g : Plain} → Alike M a b → Alike M c d → Alike M e g → Alike M (row_of_three f a c e) (row_of_three f b d g)
   three-alike Function.IfThenElse h k l = chosen_row-alike h k l
-  three-alike Function.AnyCompare {a} {b} {c} {d} {e} {g} h k l = flat-alike (any_compare_value a c e) (any_compare_value b d g) (any_compare-flat a c e) (any_compare-same h k l)
-  three-alike Function.AllCompare {a} {b} {c} {d} {e} {g} h k l = flat-alike (all_compare_value a c e) (all_compare_value b d g) (all_compare-flat a c e) (all_compare-same h k l)
+  three-alike Function.AnyCompare {a} {b} {c} {d} {e} {g} h k l =
+      flat-alike (any_compare_value a c e) (any_compare_value b d g) (any_compare-flat a c e) (any_compare-same h k l)
+  three-alike Function.AllCompare {a} {b} {c} {d} {e} {g} h k l =
+      flat-alike (all_compare_value a c e) (all_compare_value b d g) (all_compare-flat a c e) (all_compare-same h k l)
   three-alike Function.Substr {a} {b} {c} {d} {e} {g} h k l = flat-alike (part_value a c e) (part_value b d g) (part-flat a c e) (part-same h k l)
   three-alike Function.StringListMember {a} {b} {c} {d} {e} {g} h k l =
       flat-alike (string_list_member_value a c e) (string_list_member_value b d g) (string_list_member-flat a c e) (string_list_member-same h k l)
@@ -335,7 +352,8 @@ module _ {M : AdPlace → AdPlace → Type 0} (one : IsOneToOne M) where
   row-alike Function.Strcat moment {vs} {ws} hs = flat-alike (strcat_value vs) (strcat_value ws) (strcat-flat vs) (strcat-same hs)
   row-alike f moment no_items = flat-alike (row_of_none f moment) (row_of_none f moment) (none-flat f moment) refl
   row-alike f moment (more_items {a = v} {b = w} h no_items) = flat-alike (row_of_one f v) (row_of_one f w) (one-flat f v) (one-same f h)
-  row-alike f moment (more_items {a = a} {b = b} h (more_items {a = c} {b = d} k no_items)) = flat-alike (row_of_two f a c) (row_of_two f b d) (two-flat f a c) (two-same f h k)
+  row-alike f moment (more_items {a = a} {b = b} h (more_items {a = c} {b = d} k no_items)) =
+      flat-alike (row_of_two f a c) (row_of_two f b d) (two-flat f a c) (two-same f h k)
   row-alike f moment (more_items h (more_items k (more_items l no_items))) = three-alike f h k l
   row-alike f moment (more_items h (more_items k (more_items l (more_items m hs)))) = errors
 
@@ -378,7 +396,8 @@ module _ {M : AdPlace → AdPlace → Type 0} (one : IsOneToOne M) where
   call-alike x moment {vs} {ws} hs = by (is_known x (length vs)) (is_known x (length ws)) (ap (is_known x) (Each-length hs)) (function_named x)
     where
       by : (a b : Bool) → a ≡ b → (o : Option Function)
-          → Alike M (cond a (option_map_or (λ f. function_value f vs moment) o error) error) (cond b (option_map_or (λ f. function_value f ws moment) o error) error)
+          → Alike M (cond a (option_map_or (λ f. function_value f vs moment) o error) error)
+          (cond b (option_map_or (λ f. function_value f ws moment) o error) error)
       by true true same (Some f) = function-alike f moment hs
       by true true same None = errors
       by false false same o = errors

@@ -6,7 +6,8 @@ use Rattle.ad_value.specs.Plain.{Plain, boolean, error, list, plains_of, text}
 use Rattle.ad_value.proofs.PlainLemmas.{elements-plains_of}
 use Rattle.builtin_funcs.specs.Lists.{all_compare_value, any_compare_value, compares, comparison_named}
 
-pub any_compare_at : (op l x v : Plain) (read spelling : List ℕ) (ps : List Plain) → op ≡ text spelling → l ≡ list (plains_of ps) → read ≡ spelling → v ≡ option_map_or (λ o. boolean (list_any (λ e. compares o e x) ps)) (comparison_named read) error → v ≡ any_compare_value op l x
+pub any_compare_at : (op l x v : Plain) (read spelling : List ℕ) (ps : List Plain) → op ≡ text spelling → l ≡ list (plains_of ps) → read ≡ spelling
+    → v ≡ option_map_or (λ o. boolean (list_any (λ e. compares o e x) ps)) (comparison_named read) error → v ≡ any_compare_value op l x
 any_compare_at op l x v read spelling ps is_text is_list is_read value =
     value
     ∙ ap (λ s. option_map_or (λ o. boolean (list_any (λ e. compares o e x) ps)) (comparison_named s) error) is_read
@@ -14,7 +15,8 @@ any_compare_at op l x v read spelling ps is_text is_list is_read value =
     ∙ sym (ap (λ o. any_compare_value o (list (plains_of ps)) x) is_text)
     ∙ sym (ap (λ m. any_compare_value op m x) is_list)
 
-pub all_compare_at : (op l x v : Plain) (read spelling : List ℕ) (ps : List Plain) → op ≡ text spelling → l ≡ list (plains_of ps) → read ≡ spelling → v ≡ option_map_or (λ o. boolean (list_all (λ e. compares o e x) ps)) (comparison_named read) error → v ≡ all_compare_value op l x
+pub all_compare_at : (op l x v : Plain) (read spelling : List ℕ) (ps : List Plain) → op ≡ text spelling → l ≡ list (plains_of ps) → read ≡ spelling
+    → v ≡ option_map_or (λ o. boolean (list_all (λ e. compares o e x) ps)) (comparison_named read) error → v ≡ all_compare_value op l x
 all_compare_at op l x v read spelling ps is_text is_list is_read value =
     value
     ∙ ap (λ s. option_map_or (λ o. boolean (list_all (λ e. compares o e x) ps)) (comparison_named s) error) is_read

@@ -1,5 +1,6 @@
 -- The items of a string list.
-use Rattle.std.proofs.Common.{◌≡◌, ℕ, ◌<◌, ◌≤◌, ◌+◌, ◌⊎◌, inl, inr, get_or, replicate, ◌||◌, ◌&&◌, arith, Bool, true, false, cond, ltb, eqb, List, [], ◌∷◌, length, filter, refl, ◌∙◌, ap}
+use Rattle.std.proofs.Common.{◌≡◌, ℕ, ◌<◌, ◌≤◌, ◌+◌, ◌⊎◌, inl, inr, get_or, replicate, ◌||◌, ◌&&◌, arith, Bool, true, false, cond, ltb, eqb, List, [], ◌∷◌}
+use Rattle.std.proofs.Common.{length, filter, refl, ◌∙◌, ap}
 use Rattle.std.proofs.lemmas.Bool.{cases_lt}
 use Rattle.std.proofs.lemmas.List.{get_or-replicate, get_or_past, length-replicate}
 use Rattle.std.specs.List.{list_any, onto_first, slice_split}
@@ -9,13 +10,16 @@ use Rattle.builtin_funcs.specs.Texts.{items_of}
 slice_split-same : (p q : ℕ → Bool) → ((x : ℕ) → p x ≡ q x) → (xs : List ℕ) → slice_split p xs ≡ slice_split q xs
 slice_split-same p q same [] = refl
 slice_split-same p q same (x ∷ xs) =
-    ap (λ parts. cond (p x) ([] ∷ parts) (onto_first x parts)) (slice_split-same p q same xs) ∙ ap (λ b. cond b ([] ∷ slice_split q xs) (onto_first x (slice_split q xs))) (same x)
+    ap (λ parts. cond (p x) ([] ∷ parts) (onto_first x parts)) (slice_split-same p q same xs)
+    ∙ ap (λ b. cond b ([] ∷ slice_split q xs) (onto_first x (slice_split q xs))) (same x)
 
-pub items_of-marks : (delimiters : List ℕ) (marked : ℕ → Bool) → ((byte : ℕ) → marked byte ≡ list_any (λ d. eqb d byte) delimiters) → (bytes : List ℕ) → filter (λ part. ltb 0 (length part)) (slice_split marked bytes) ≡ items_of delimiters bytes
+pub items_of-marks : (delimiters : List ℕ) (marked : ℕ → Bool) → ((byte : ℕ) → marked byte ≡ list_any (λ d. eqb d byte) delimiters) → (bytes : List ℕ)
+    → filter (λ part. ltb 0 (length part)) (slice_split marked bytes) ≡ items_of delimiters bytes
 items_of-marks delimiters marked same bytes = ap (filter (λ part. ltb 0 (length part))) (slice_split-same marked _ same bytes)
 
 -- to find one that passes two tests is to find one that passes the second among those that pass the first
-any_kept : {X : Type 0} (first : Bool) (test : X → Bool) (x : X) (xs : List X) (found : Bool) → found ≡ list_any test xs → (first && test x || found) ≡ list_any test (cond first (x ∷ xs) xs)
+any_kept : {X : Type 0} (first : Bool) (test : X → Bool) (x : X) (xs : List X) (found : Bool) → found ≡ list_any test xs
+    → (first && test x || found) ≡ list_any test (cond first (x ∷ xs) xs)
 any_kept true test x xs found is = ap (λ b. test x || b) is
 any_kept false test x xs found is = is
 
@@ -40,7 +44,9 @@ items_in-onto_first : (x : ℕ) (parts : List (List ℕ)) → items_in (onto_fir
 items_in-onto_first x [] = omega arith
 items_in-onto_first x (part ∷ parts) = by_part (ltb 0 (length (x ∷ part))) (ltb 0 (length part))
   where
-    by_part : (longer shorter : Bool) → length (cond longer ((x ∷ part) ∷ filter (λ q. ltb 0 (length q)) parts) (filter (λ q. ltb 0 (length q)) parts)) ≤ length (cond shorter (part ∷ filter (λ q. ltb 0 (length q)) parts) (filter (λ q. ltb 0 (length q)) parts)) + 1
+    by_part : (longer shorter : Bool)
+        → length (cond longer ((x ∷ part) ∷ filter (λ q. ltb 0 (length q)) parts) (filter (λ q. ltb 0 (length q)) parts))
+        ≤ length (cond shorter (part ∷ filter (λ q. ltb 0 (length q)) parts) (filter (λ q. ltb 0 (length q)) parts)) + 1
     by_part true true = omega arith
     by_part true false = omega arith
     by_part false true = omega arith
@@ -50,7 +56,8 @@ items_in-split : (p : ℕ → Bool) (xs : List ℕ) → items_in (slice_split p 
 items_in-split p [] = omega arith
 items_in-split p (x ∷ xs) = by_first (p x) (items_in-split p xs)
   where
-    by_first : (b : Bool) → items_in (slice_split p xs) ≤ length xs → items_in (cond b ([] ∷ slice_split p xs) (onto_first x (slice_split p xs))) ≤ length (x ∷ xs)
+    by_first : (b : Bool) → items_in (slice_split p xs) ≤ length xs
+        → items_in (cond b ([] ∷ slice_split p xs) (onto_first x (slice_split p xs))) ≤ length (x ∷ xs)
     by_first true fewer = omega arith
     by_first false fewer = omega (arith, items_in-onto_first x (slice_split p xs))
 

@@ -1,5 +1,6 @@
 -- Laws of the functions of texts: `string` with `int`, `toLower`, `strcat`, and string lists.
-use Rattle.std.proofs.Common.{◌≡◌, ℕ, suc, ◌^◌, ◌<◌, ◌≤◌, Bool, true, false, ◌&&◌, ◌||◌, not, cond, ltb, eqb, codes, decimal, List, [], ◌∷◌, ◌++◌, length, get_or, drop, filter, map, ℤ, pos, negsuc, neg_ℤ, refl, sym, ◌∙◌, ap, arith}
+use Rattle.std.proofs.Common.{◌≡◌, ℕ, suc, ◌^◌, ◌<◌, ◌≤◌, Bool, true, false, ◌&&◌, ◌||◌, not, cond, ltb, eqb, codes, decimal, List, [], ◌∷◌, ◌++◌, length}
+use Rattle.std.proofs.Common.{get_or, drop, filter, map, ℤ, pos, negsuc, neg_ℤ, refl, sym, ◌∙◌, ap, arith}
 use Rattle.std.specs.Prelude.{FitsSigned}
 use Rattle.std.specs.Int.{w64, IsInRange}
 use Rattle.std.specs.Fmt.{signed_decimal}
@@ -38,7 +39,8 @@ no_sign n small =
 
 read_positive : (n : ℕ) → n < 2 ^ 63 → signed_digits_value 10 (decimal n) ≡ pos n
 read_positive n small =
-    ap (λ b. cond b (neg_ℤ (pos (digits_value 10 (without_leading_sign (decimal n))))) (pos (digits_value 10 (without_leading_sign (decimal n))))) (not_minus n small)
+    ap (λ b. cond b (neg_ℤ (pos (digits_value 10 (without_leading_sign (decimal n))))) (pos (digits_value 10 (without_leading_sign (decimal n)))))
+    (not_minus n small)
     ∙ ap (λ ds. pos (digits_value 10 ds)) (no_sign n small)
     ∙ ap pos (decimal_is_IsNumeral n (omega arith)).1
 
@@ -68,9 +70,11 @@ int_of : (bytes : List ℕ) (moment : ℕ) → call_value (codes "int") (text by
 unfolding function_named function_value
 int_of bytes moment = refl
 
-pub int_reads_string : (z : ℤ) (moment : ℕ) → FitsSigned w64 z → call_value (codes "int") (call_value (codes "string") (integer z ∷ []) moment ∷ []) moment ≡ integer z
+pub int_reads_string : (z : ℤ) (moment : ℕ) → FitsSigned w64 z
+    → call_value (codes "int") (call_value (codes "string") (integer z ∷ []) moment ∷ []) moment ≡ integer z
 int_reads_string z moment fits =
-    let written_text : call_value (codes "string") (integer z ∷ []) moment ≡ text (signed_decimal z) = string_of z moment ∙ light (text (signed_decimal z)) (omega (arith, short z fits)) in
+    let written_text : call_value (codes "string") (integer z ∷ []) moment ≡ text (signed_decimal z) =
+    string_of z moment ∙ light (text (signed_decimal z)) (omega (arith, short z fits)) in
     ap (λ v. call_value (codes "int") (v ∷ []) moment) written_text ∙ int_of (signed_decimal z) moment ∙ ap bounded (read_back z fits)
 
 -- ---- `toLower`
@@ -81,10 +85,12 @@ to_lower_folds bytes moment = refl
 
 -- ---- `strcat`
 
-strcat_of : (ps : List Plain) (moment : ℕ) → list_any is_error ps ≡ false → list_any is_undefined ps ≡ false → call_value (codes "strcat") ps moment ≡ bounded (strcat_value ps)
+strcat_of : (ps : List Plain) (moment : ℕ) → list_any is_error ps ≡ false → list_any is_undefined ps ≡ false
+    → call_value (codes "strcat") ps moment ≡ bounded (strcat_value ps)
 unfolding function_named function_value
 strcat_of ps moment fine defined =
-    ap (λ b. bounded (cond b error (cond (list_any is_undefined ps) undefined (strcat_value ps)))) fine ∙ ap (λ b. bounded (cond b undefined (strcat_value ps))) defined
+    ap (λ b. bounded (cond b error (cond (list_any is_undefined ps) undefined (strcat_value ps)))) fine
+    ∙ ap (λ b. bounded (cond b undefined (strcat_value ps))) defined
 
 no_errors : (texts : List (List ℕ)) → list_any is_error (map text texts) ≡ false
 no_errors [] = refl
@@ -129,10 +135,12 @@ none_divides : (p : ℕ → Bool) (xs : List ℕ) → list_any p xs ≡ false �
 none_divides p [] none = All-nil (λ x. p x ≡ false)
 none_divides p (x ∷ xs) none = let parts = neither (p x) (list_any p xs) none in All-cons (λ y. p y ≡ false) x xs parts.0 (none_divides p xs parts.1)
 
-kept_first : (part : List ℕ) (parts : List (List ℕ)) → ltb 0 (length part) ≡ true → filter (λ q. ltb 0 (length q)) (part ∷ parts) ≡ part ∷ filter (λ q. ltb 0 (length q)) parts
+kept_first : (part : List ℕ) (parts : List (List ℕ)) → ltb 0 (length part) ≡ true
+    → filter (λ q. ltb 0 (length q)) (part ∷ parts) ≡ part ∷ filter (λ q. ltb 0 (length q)) parts
 kept_first part parts some = ap (λ b. cond b (part ∷ filter (λ q. ltb 0 (length q)) parts) (filter (λ q. ltb 0 (length q)) parts)) some
 
-pub items_of-joined : (delimiters : List ℕ) (delimiter : ℕ) (texts : List (List ℕ)) → divides delimiters delimiter ≡ true → list_all (is_item delimiters) texts ≡ true → items_of delimiters (join_with_byte delimiter texts) ≡ texts
+pub items_of-joined : (delimiters : List ℕ) (delimiter : ℕ) (texts : List (List ℕ)) → divides delimiters delimiter ≡ true
+    → list_all (is_item delimiters) texts ≡ true → items_of delimiters (join_with_byte delimiter texts) ≡ texts
 items_of-joined delimiters delimiter [] one all = refl
 items_of-joined delimiters delimiter (x ∷ []) one all =
     let item = passes _ _ (both _ _ all).0 in
@@ -158,11 +166,14 @@ whole-split p (x ∷ xs) = by_first (p x) refl (whole-split p xs)
     by_first true is rest = rest
     by_first false is rest = whole-onto_first p x (slice_split p xs) is rest
 
-kept_whole : (delimiters : List ℕ) (parts : List (List ℕ)) → whole (divides delimiters) parts ≡ true → list_all (is_item delimiters) (filter (λ q. ltb 0 (length q)) parts) ≡ true
+kept_whole : (delimiters : List ℕ) (parts : List (List ℕ)) → whole (divides delimiters) parts ≡ true
+    → list_all (is_item delimiters) (filter (λ q. ltb 0 (length q)) parts) ≡ true
 kept_whole delimiters [] all = refl
 kept_whole delimiters (part ∷ parts) all = by_first (ltb 0 (length part)) refl (both _ _ all).0 (kept_whole delimiters parts (both _ _ all).1)
   where
-    by_first : (b : Bool) → ltb 0 (length part) ≡ b → not (list_any (divides delimiters) part) ≡ true → list_all (is_item delimiters) (filter (λ q. ltb 0 (length q)) parts) ≡ true → list_all (is_item delimiters) (cond b (part ∷ filter (λ q. ltb 0 (length q)) parts) (filter (λ q. ltb 0 (length q)) parts)) ≡ true
+    by_first : (b : Bool) → ltb 0 (length part) ≡ b → not (list_any (divides delimiters) part) ≡ true
+        → list_all (is_item delimiters) (filter (λ q. ltb 0 (length q)) parts) ≡ true
+        → list_all (is_item delimiters) (cond b (part ∷ filter (λ q. ltb 0 (length q)) parts) (filter (λ q. ltb 0 (length q)) parts)) ≡ true
     by_first true some undivided rest =
         ap (λ b. (b && not (list_any (divides delimiters) part)) && list_all (is_item delimiters) (filter (λ q. ltb 0 (length q)) parts)) some
         ∙ ap (λ b. b && list_all (is_item delimiters) (filter (λ q. ltb 0 (length q)) parts)) undivided

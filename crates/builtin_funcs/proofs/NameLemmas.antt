@@ -25,15 +25,21 @@ passed_over : (same : Bool) (f : Function) (o : Option Function) → same ≡ fa
 passed_over false f o is = refl
 passed_over true f o is = absurd (cc)
 
-kept : (here : Bool) (entry : List ℕ × Function) (table : List (List ℕ × Function)) (name : List ℕ) → eqb (length entry.0) (length name) ≡ here → function_in (filter (λ e. eqb (length e.0) (length name)) table) name ≡ function_in table name → function_in (cond here (entry ∷ filter (λ e. eqb (length e.0) (length name)) table) (filter (λ e. eqb (length e.0) (length name)) table)) name ≡ function_in (entry ∷ table) name
+kept : (here : Bool) (entry : List ℕ × Function) (table : List (List ℕ × Function)) (name : List ℕ) → eqb (length entry.0) (length name) ≡ here
+    → function_in (filter (λ e. eqb (length e.0) (length name)) table) name ≡ function_in table name
+    → function_in (cond here (entry ∷ filter (λ e. eqb (length e.0) (length name)) table) (filter (λ e. eqb (length e.0) (length name)) table)) name
+    ≡ function_in (entry ∷ table) name
 kept true entry table name is left = ap (λ o. cond (bytes_eq (folded entry.0) (folded name)) (Option.Some entry.1) o) left
 kept false entry table name is left = left ∙ sym (passed_over _ entry.1 _ (lengths_apart entry.0 name is))
 
-pub function_in-of_length : (table : List (List ℕ × Function)) (name : List ℕ) → function_in (filter (λ e. eqb (length e.0) (length name)) table) name ≡ function_in table name
+pub function_in-of_length : (table : List (List ℕ × Function)) (name : List ℕ)
+    → function_in (filter (λ e. eqb (length e.0) (length name)) table) name ≡ function_in table name
 function_in-of_length [] name = refl
 function_in-of_length (entry ∷ table) name = kept _ entry table name refl (function_in-of_length table name)
 
 -- a name of n bytes is looked for among the names of n bytes
-pub function_named-of_length : (n : ℕ) (name : List ℕ) → length name ≡ n → function_in (filter (λ e. eqb (length e.0) n) function_names) name ≡ function_named name
+pub function_named-of_length : (n : ℕ) (name : List ℕ) → length name ≡ n
+    → function_in (filter (λ e. eqb (length e.0) n) function_names) name ≡ function_named name
 unfolding function_named
-function_named-of_length n name count = ap (λ m. function_in (filter (λ e. eqb (length e.0) m) function_names) name) (sym count) ∙ function_in-of_length function_names name
+function_named-of_length n name count =
+    ap (λ m. function_in (filter (λ e. eqb (length e.0) m) function_names) name) (sym count) ∙ function_in-of_length function_names name

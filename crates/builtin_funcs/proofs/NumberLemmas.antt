@@ -52,18 +52,22 @@ numeral_from_test ds passes =
     (grind (arith, nat_tests), own_digits.to ds parts.1)
 
 -- what parsing reads is the Integer of the text
-pub integer_in-parsed : (bytes : List ℕ) (n : ℤ) → IsNumeral 10 (without_leading_sign bytes) → FitsSigned w64 (signed_digits_value 10 bytes) → n ≡ signed_digits_value 10 bytes → integer n ≡ integer_in bytes
+pub integer_in-parsed : (bytes : List ℕ) (n : ℤ) → IsNumeral 10 (without_leading_sign bytes) → FitsSigned w64 (signed_digits_value 10 bytes)
+    → n ≡ signed_digits_value 10 bytes → integer n ≡ integer_in bytes
 integer_in-parsed bytes n numeral fits same =
-    integer-fitting _ _ _ refl fits same ∙ sym (ap (λ b. cond b (integer_or_error (signed_digits_value 10 bytes)) error) (numeral_passes (without_leading_sign bytes) numeral))
+    integer-fitting _ _ _ refl fits same ∙ sym (ap (λ b. cond b (integer_or_error (signed_digits_value 10 bytes)) error)
+    (numeral_passes (without_leading_sign bytes) numeral))
 
 refused_by : (test : Bool) (v : ℤ) → (test ≡ true → FitsSigned w64 v → ⊥) → error ≡ cond test (integer_or_error v) error
 refused_by false v never = refl
 refused_by true v never = sym (out_of_64_bits v (never refl))
 
-pub integer_in-refused : (bytes : List ℕ) → (IsNumeral 10 (without_leading_sign bytes) → FitsSigned w64 (signed_digits_value 10 bytes) → ⊥) → error ≡ integer_in bytes
+pub integer_in-refused : (bytes : List ℕ) → (IsNumeral 10 (without_leading_sign bytes) → FitsSigned w64 (signed_digits_value 10 bytes) → ⊥)
+    → error ≡ integer_in bytes
 integer_in-refused bytes never = refused_by _ (signed_digits_value 10 bytes) (λ test fits. never (numeral_from_test (without_leading_sign bytes) test) fits)
 
-ascii_behind : (minus plus : Bool) (b : ℕ) (bs : List ℕ) → eqb b 45 ≡ minus → eqb b 43 ≡ plus → IsAscii (cond minus (drop 1 (b ∷ bs)) (drop (cond plus 1 0) (b ∷ bs))) → IsAscii (b ∷ bs)
+ascii_behind : (minus plus : Bool) (b : ℕ) (bs : List ℕ) → eqb b 45 ≡ minus → eqb b 43 ≡ plus
+    → IsAscii (cond minus (drop 1 (b ∷ bs)) (drop (cond plus 1 0) (b ∷ bs))) → IsAscii (b ∷ bs)
 ascii_behind true plus b bs is other rest = IsAscii-cons b bs (grind (arith, nat_tests)) rest
 ascii_behind false true b bs other is rest = IsAscii-cons b bs (grind (arith, nat_tests)) rest
 ascii_behind false false b bs other others rest = rest

@@ -27,12 +27,14 @@ pub none-row : (f : Function) (args : List Plain) (moment : ℕ) → (f ≡ Func
 none-row f [] moment other count = by_count-row f [] moment other
 none-row f (x ∷ args) moment other count = absurd (omega (arith, count))
 
-pub one-row : (f : Function) (args : List Plain) (moment : ℕ) (x : Plain) → (f ≡ Function.Strcat → ⊥) → length args ≡ 1 → slice_get args 0 ≡ Some x → row_of_one f x ≡ row_of f args moment
+pub one-row : (f : Function) (args : List Plain) (moment : ℕ) (x : Plain) → (f ≡ Function.Strcat → ⊥) → length args ≡ 1 → slice_get args 0 ≡ Some x
+    → row_of_one f x ≡ row_of f args moment
 one-row f (a ∷ []) moment x other count first = ap (row_of_one f) (sym (there first)) ∙ by_count-row f (a ∷ []) moment other
 one-row f [] moment x other count first = absurd (omega (arith, count))
 one-row f (a ∷ b ∷ args) moment x other count first = absurd (omega (arith, count))
 
-pub two-row : (f : Function) (args : List Plain) (moment : ℕ) (x y : Plain) → (f ≡ Function.Strcat → ⊥) → length args ≡ 2 → slice_get args 0 ≡ Some x → slice_get args 1 ≡ Some y
+pub two-row : (f : Function) (args : List Plain) (moment : ℕ) (x y : Plain) → (f ≡ Function.Strcat → ⊥) → length args ≡ 2 → slice_get args 0 ≡ Some x
+    → slice_get args 1 ≡ Some y
     → row_of_two f x y ≡ row_of f args moment
 two-row f (a ∷ b ∷ []) moment x y other count first second =
     ap (λ v. row_of_two f v y) (sym (there first)) ∙ ap (row_of_two f a) (sym (there second)) ∙ by_count-row f (a ∷ b ∷ []) moment other

@@ -8,7 +8,8 @@ use Rattle.builtin_funcs.specs.declared.function.Function.{Function}
 use Rattle.builtin_funcs.specs.Kinds.{is_ad, is_boolean, is_error, is_integer, is_list, is_text, is_undefined}
 use Rattle.builtin_funcs.specs.Aggregates.{aggregate, greatest, least, on_list, total}
 use Rattle.builtin_funcs.specs.Lists.{all_compare_value, any_compare_value, identical_member_value, member_value}
-use Rattle.builtin_funcs.specs.Texts.{bool_value, int_value, on_text, part_value, strcat_value, strcmp_value, stricmp_value, string_list_member_value, string_list_size_value, string_value, tail_value, usual_delimiters}
+use Rattle.builtin_funcs.specs.Texts.{bool_value, int_value, on_text, part_value, strcat_value, strcmp_value, stricmp_value, string_list_member_value}
+use Rattle.builtin_funcs.specs.Texts.{string_list_size_value, string_value, tail_value, usual_delimiters}
 
 -- the bytes of a String or the elements of a List; the attributes of an Ad aren't in its value
 abbrev pub size_value : Plain → Plain

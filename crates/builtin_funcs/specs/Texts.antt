@@ -1,5 +1,6 @@
 -- The rows for texts.
-use Rattle.std.specs.Prelude.{ℕ, ◌+◌, ◌-◌, min, Bool, true, false, not, ◌&&◌, ◌==◌, nat_lt, ℤ, pos, negsuc, List, [], length, filter, codes, slice_range, if◌then◌else◌}
+use Rattle.std.specs.Prelude.{ℕ, ◌+◌, ◌-◌, min, Bool, true, false, not, ◌&&◌, ◌==◌, nat_lt, ℤ, pos, negsuc, List, [], length, filter, codes, slice_range}
+use Rattle.std.specs.Prelude.{if◌then◌else◌}
 use Rattle.std.specs.declared.cmp.Ordering.{Ordering}
 use Rattle.std.specs.Ordering.{int_eq, nat_cmp}
 use Rattle.std.specs.Cmp.Lexicographic.{slice_cmp}
@@ -32,7 +33,8 @@ string_value x = if is_scalar x then text (written x) else error
 -- the Integer that an optional sign and one or more decimal digits write, where it is in 64 bits
 abbrev pub integer_in : List ℕ → Plain
 integer_in bytes =
-    if nat_lt 0 (length (without_leading_sign bytes)) && all_ascii_digits (without_leading_sign bytes) then integer_or_error (signed_digits_value 10 bytes) else error
+    if nat_lt 0 (length (without_leading_sign bytes)) && all_ascii_digits (without_leading_sign bytes) then integer_or_error (signed_digits_value 10
+    bytes) else error
 
 -- a number cut towards zero, or the Integer that a String writes
 abbrev pub int_value : Plain → Plain

@@ -4,7 +4,8 @@ ghost use Rattle.std.specs.List.{list_all, list_any};
 ghost use Rattle.std.specs.Option.{option_map_or};
 ghost use Rattle.ad_value.specs.Plain.{boolean, error, plain, plains};
 ghost use Rattle.ad_value.specs.Operators.{is_same};
-ghost use Rattle.builtin_funcs.specs.Lists.{all_compare_value, any_compare_value, comparison_in, comparison_named, compares, identical_member_value, member_value};
+ghost use Rattle.builtin_funcs.specs.Lists.{all_compare_value, any_compare_value, comparison_in, comparison_named, compares, identical_member_value};
+ghost use Rattle.builtin_funcs.specs.Lists.{member_value};
 
 use crate::kinds::{is_scalar, is_true};
 use ad_value::{Value, Values, binary, same};

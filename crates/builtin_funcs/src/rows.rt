@@ -1,5 +1,6 @@
 // The table of the functions.
 ghost use Rattle.std.specs.Prelude.{◌≡◌, pos, IfOk};
+ghost use Rattle.ad_value.specs.Limits.{bounded};
 ghost use Rattle.ad_value.specs.Plain.{plain, plains};
 ghost use Rattle.ad_value.specs.Numbers.{integer_or_error};
 ghost use Rattle.builtin_funcs.specs.Rows.{chosen, row_of, row_of_none, row_of_one, row_of_three, row_of_two, size_value};
@@ -10,14 +11,15 @@ use ad_value::{Value, Values, copy};
 use pool_text::OutOfMemory;
 use std::alloc::Global;
 
-/// What the function gives where none of the arguments in which it is strict is Error or Undefined.
+/// What the function gives where none of the arguments in which it is strict is Error or Undefined. Where that is too heavy it may
+/// be Error already.
 pub(crate) fn row(
     alloc: Global,
     function: Function,
     args: &Values,
     moment: u64,
 ) -> Result<Value, OutOfMemory>
-    ensures { IfOk result (λ v. plain v ≡ row_of function (plains args.now) moment) }
+    ensures { IfOk result (λ v. bounded (plain v) ≡ bounded (row_of function (plains args.now) moment)) }
 {
     if let Function::Strcat = function {
         return texts::strcat(alloc, args);

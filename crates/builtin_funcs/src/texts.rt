@@ -3,6 +3,7 @@ ghost use Rattle.std.specs.Prelude.{◌≡◌, ◌≤◌, length, map, slice_ran
 ghost use Rattle.std.specs.Char.{to_ascii_uppercase};
 ghost use Rattle.std.specs.List.{list_all};
 ghost use Rattle.pool_text.specs.Folding.{folded};
+ghost use Rattle.ad_value.specs.Limits.{bounded};
 ghost use Rattle.ad_value.specs.Plain.{integer, plain, plains, text};
 ghost use Rattle.builtin_funcs.specs.Kinds.{is_scalar};
 ghost use Rattle.builtin_funcs.specs.Texts.{end_of, on_text, order_number, part_value, start_of, strcat_value, strcmp_value, stricmp_value, tail_value};
@@ -14,10 +15,13 @@ use pool_text::{OutOfMemory, Text, order_folded};
 use std::alloc::Global;
 use std::cmp::Ordering;
 
-/// The arguments as text, one behind the other.
+// So many bytes have a text that isn't too heavy for a value at most.
+const LONGEST: usize = 65_535;
+
+/// The arguments as text, one behind the other. What is too heavy for a value isn't joined to the end: it is Error.
 #[tactic(auto, using(crate::proofs::ListLemmas::drop_at))]
 pub(crate) fn strcat(alloc: Global, args: &Values) -> Result<Value, OutOfMemory>
-    ensures { IfOk result (λ v. plain v ≡ strcat_value (plains args.now)) }
+    ensures { IfOk result (λ v. bounded (plain v) ≡ bounded (strcat_value (plains args.now))) }
 {
     if !all_scalars(args) {
         return Ok(Value::Error);
@@ -25,6 +29,9 @@ pub(crate) fn strcat(alloc: Global, args: &Values) -> Result<Value, OutOfMemory>
     let mut out = Text::new(alloc);
     for i in 0..args.len() {
         append_written(&mut out, args.at(i))?;
+        if out.bytes().len() > LONGEST {
+            return Ok(Value::Error);
+        }
     }
     Ok(Value::Str(out))
 }

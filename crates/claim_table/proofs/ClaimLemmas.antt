@@ -1,5 +1,6 @@
 -- What a claim answers, and what it may count.
-use Rattle.std.proofs.Common.{◌≡◌, ◌≢◌, ℕ, ◌≤◌, All, List, [], ◌∷◌, ◌++◌, if◌then◌else◌, length, slice_get, Option, None, Some, refl, sym, ◌∙◌, ap, arith}
+use Rattle.std.proofs.Common.{◌≡◌, ◌≢◌, ℕ, ◌≤◌, All, List, [], ◌∷◌, ◌++◌, if◌then◌else◌, length, slice_get, Option, None}
+use Rattle.std.proofs.Common.{Some, refl, sym, ◌∙◌, ap, arith}
 use Rattle.std.specs.Prelude.{Err, Ok, Result, option_map}
 use Rattle.std.specs.Option.{option_and_then, option_map_or, option_to_list}
 use Rattle.std.proofs.lemmas.List.Elements.{All-nil}
@@ -13,7 +14,8 @@ use Rattle.claim_table.specs.declared.answers.JobState.{JobState}
 use Rattle.claim_table.specs.declared.job.Job.{Job}
 use Rattle.claim_table.specs.declared.job.Stage.{Stage}
 use Rattle.claim_table.specs.Answers.{freed_at, freed_of, given_back, release_answer}
-use Rattle.claim_table.specs.Claims.{checked, claimed, claimed_at, entered_for, entered_in, first_failing, freed_all, granted, losers, offer_at, offer_named, sum_over, undecided_for}
+use Rattle.claim_table.specs.Claims.{checked, claimed, claimed_at, entered_for, entered_in, first_failing, freed_all, granted, losers, offer_at, offer_named}
+use Rattle.claim_table.specs.Claims.{sum_over, undecided_for}
 use Rattle.claim_table.specs.Jobs.{IsFilled, job_named, numbered, offer_of, slots_of, state_of, wanted, with_standing}
 use Rattle.claim_table.specs.Priorities.{Setting, priority_of}
 
@@ -37,7 +39,8 @@ pub offer-found : (jobs : List Job) (i : ℕ) (job : Job) → slice_get jobs i �
 offer-found jobs i job at = ap (λ o. option_map_or (λ j. offer_of j.standing) o []) at
 
 -- one more is told
-pub told-one : (jobs : List Job) (i : ℕ) (job : Job) → slice_get jobs i ≡ Some job → (freed : Freed) (before after : List Freed) → freed ≡ freed_of job → after ≡ before ++ freed ∷ [] → after ≡ before ++ freed_at (Some i) jobs
+pub told-one : (jobs : List Job) (i : ℕ) (job : Job) → slice_get jobs i ≡ Some job → (freed : Freed) (before after : List Freed)
+    → freed ≡ freed_of job → after ≡ before ++ freed ∷ [] → after ≡ before ++ freed_at (Some i) jobs
 told-one jobs i job at freed before after is told =
     told ∙ ap (λ f. before ++ f ∷ []) is ∙ sym (ap (λ o. before ++ option_to_list (option_map freed_of o)) at)
 
@@ -48,7 +51,9 @@ module _ (name : List ℕ) (jobs : List Job) where
 
   module _ (i : ℕ) (job : Job) (number : numbered name jobs ≡ Some i) (at : slice_get jobs i ≡ Some job) where
     given : release_answer name jobs ≡ given_back job.standing
-    given = ap (λ o. option_map_or (λ j. given_back j.standing) (option_and_then (λ k. slice_get jobs k) o) (Err JobFault.NoJob)) number ∙ ap (λ o. option_map_or (λ j. given_back j.standing) o (Err JobFault.NoJob)) at
+    given =
+        ap (λ o. option_map_or (λ j. given_back j.standing) (option_and_then (λ k. slice_get jobs k) o) (Err JobFault.NoJob)) number
+        ∙ ap (λ o. option_map_or (λ j. given_back j.standing) o (Err JobFault.NoJob)) at
 
     pub released-idle : state_of job.standing ≡ JobState.Idle → release_answer name jobs ≡ Err (JobFault.WrongState JobState.Idle)
     released-idle idle = given ∙ by job.standing idle
@@ -58,9 +63,11 @@ module _ (name : List ℕ) (jobs : List Job) where
         by (Stage.Matched slots) is = absurd (cc)
         by (Stage.Claimed slots) is = absurd (cc)
 
-    pub released-held : (slots : List ℕ) → state_of job.standing ≢ JobState.Idle → option_map (λ (j : Job). slots_of j.standing) (slice_get jobs i) ≡ Some slots → Ok slots ≡ release_answer name jobs
+    pub released-held : (slots : List ℕ) → state_of job.standing ≢ JobState.Idle
+        → option_map (λ (j : Job). slots_of j.standing) (slice_get jobs i) ≡ Some slots → Ok slots ≡ release_answer name jobs
     released-held slots busy listed =
-        let held : slots_of job.standing ≡ slots = same_Some (slots_of job.standing) slots (sym (ap (option_map (λ (j : Job). slots_of j.standing)) at) ∙ listed) in
+        let held : slots_of job.standing ≡ slots =
+        same_Some (slots_of job.standing) slots (sym (ap (option_map (λ (j : Job). slots_of j.standing)) at) ∙ listed) in
         sym (given ∙ by job.standing busy ∙ ap (λ l. Ok l) held)
       where
         by : (s : Stage) → state_of s ≢ JobState.Idle → given_back s ≡ Ok (slots_of s)
@@ -84,10 +91,12 @@ module _ (moment : ℕ) (stock : Stock) (settings : List Setting) (name : List �
         ap (λ o. option_map_or (λ k. option_map_or (claimed_at moment stock settings jobs k) (slice_get jobs k) nobody) o nobody) number
         ∙ ap (λ o. option_map_or (claimed_at moment stock settings jobs i) o nobody) at
 
-    pub claimed-unmatched : state_of job.standing ≢ JobState.Matched → claimed moment stock settings name jobs ≡ (Err (ClaimFault.WrongState (state_of job.standing)), jobs)
+    pub claimed-unmatched : state_of job.standing ≢ JobState.Matched
+        → claimed moment stock settings name jobs ≡ (Err (ClaimFault.WrongState (state_of job.standing)), jobs)
     claimed-unmatched other = claimed-one ∙ by job.standing other
       where
-        by : (s : Stage) → state_of s ≢ JobState.Matched → claimed_at moment stock settings jobs i (record job { standing = s }) ≡ (Err (ClaimFault.WrongState (state_of s)), jobs)
+        by : (s : Stage) → state_of s ≢ JobState.Matched
+            → claimed_at moment stock settings jobs i (record job { standing = s }) ≡ (Err (ClaimFault.WrongState (state_of s)), jobs)
         by Stage.Idle other = refl
         by (Stage.Matched slots) other = absurd (other refl)
         by (Stage.Claimed slots) other = refl
@@ -96,7 +105,8 @@ module _ (moment : ℕ) (stock : Stock) (settings : List Setting) (name : List �
       claimed-checked : claimed moment stock settings name jobs ≡ checked moment stock settings jobs i job (offer_of job.standing)
       claimed-checked = claimed-one ∙ by job.standing matched
         where
-          by : (s : Stage) → state_of s ≡ JobState.Matched → claimed_at moment stock settings jobs i (record job { standing = s }) ≡ checked moment stock settings jobs i job (offer_of s)
+          by : (s : Stage) → state_of s ≡ JobState.Matched
+              → claimed_at moment stock settings jobs i (record job { standing = s }) ≡ checked moment stock settings jobs i job (offer_of s)
           by Stage.Idle other = absurd (cc)
           by (Stage.Matched slots) same = refl
           by (Stage.Claimed slots) other = absurd (cc)
@@ -108,21 +118,27 @@ module _ (moment : ℕ) (stock : Stock) (settings : List Setting) (name : List �
       by_failing failing = option_map_or (λ slot. (Err (ClaimFault.Stale slot), with_standing jobs i Stage.Idle)) failing gained
 
       -- the first failing, as it is with the number that was read
-      failing-with : (number : ℕ) (failing : Option ℕ) → number ≡ priority_of job.user settings → first_failing moment stock settings jobs number job.request (offer_of job.standing) ≡ failing
+      failing-with : (number : ℕ) (failing : Option ℕ) → number ≡ priority_of job.user settings
+          → first_failing moment stock settings jobs number job.request (offer_of job.standing) ≡ failing
           → first_failing moment stock settings jobs (priority_of job.user settings) job.request (offer_of job.standing) ≡ failing
       failing-with number failing mine is = ap (λ n. first_failing moment stock settings jobs n job.request (offer_of job.standing)) (sym mine) ∙ is
 
-      pub claimed-stale : (number slot : ℕ) → number ≡ priority_of job.user settings → first_failing moment stock settings jobs number job.request (offer_of job.standing) ≡ Some slot
+      pub claimed-stale : (number slot : ℕ) → number ≡ priority_of job.user settings
+          → first_failing moment stock settings jobs number job.request (offer_of job.standing) ≡ Some slot
           → claimed moment stock settings name jobs ≡ (Err (ClaimFault.Stale slot), with_standing jobs i Stage.Idle)
       claimed-stale number slot mine failing = claimed-checked ∙ ap by_failing (failing-with number (Some slot) mine failing)
 
-      pub claimed-granted : (number : ℕ) (freed : List Freed) (new : List Job) → number ≡ priority_of job.user settings → first_failing moment stock settings jobs number job.request (offer_of job.standing) ≡ None
-          → freed ≡ freed_all jobs (losers jobs (offer_at i jobs)) → new ≡ granted jobs i (offer_at i jobs) → claimed moment stock settings name jobs ≡ (Ok freed, new)
+      pub claimed-granted : (number : ℕ) (freed : List Freed) (new : List Job) → number ≡ priority_of job.user settings
+          → first_failing moment stock settings jobs number job.request (offer_of job.standing) ≡ None
+          → freed ≡ freed_all jobs (losers jobs (offer_at i jobs)) → new ≡ granted jobs i (offer_at i jobs)
+          → claimed moment stock settings name jobs ≡ (Ok freed, new)
       claimed-granted number freed new mine none told changed =
           let offer = offer-found jobs i job at in
-          claimed-checked ∙ ap by_failing (failing-with number None mine none) ∙ both (ap (λ slots. freed_all jobs (losers jobs slots)) (sym offer) ∙ sym told) (ap (granted jobs i) (sym offer) ∙ sym changed)
+          claimed-checked ∙ ap by_failing (failing-with number None mine none)
+          ∙ both (ap (λ slots. freed_all jobs (losers jobs slots)) (sym offer) ∙ sym told) (ap (granted jobs i) (sym offer) ∙ sym changed)
         where
-          both : {a b : List Freed} {js ks : List Job} → a ≡ b → js ≡ ks → ◌≡◌ {A = Result (List Freed) ClaimFault × List Job} (Ok a, js) (Ok b, ks)
+          both : {a b : List Freed} {js ks : List Job} → a ≡ b → js ≡ ks
+              → ◌≡◌ {A = Result (List Freed) ClaimFault × List Job} (Ok a, js) (Ok b, ks)
           both same others = cc
 
     -- what is counted is that of the job

@@ -1,5 +1,6 @@
 -- The resources of an offer, checked one after another.
-use Rattle.std.proofs.Common.{◌≡◌, ℕ, zero, suc, ◌+◌, ◌-◌, ◌<◌, ◌≤◌, Bool, true, false, not, if◌then◌else◌, List, [], ◌∷◌, ◌++◌, get_or, length, sum_by, take, None, Some, refl, sym, ◌∙◌, ap, arith, add-one, add-suc, add-zero}
+use Rattle.std.proofs.Common.{◌≡◌, ℕ, zero, suc, ◌+◌, ◌-◌, ◌<◌, ◌≤◌, Bool, true, false, not, if◌then◌else◌, List, [], ◌∷◌}
+use Rattle.std.proofs.Common.{◌++◌, get_or, length, sum_by, take, None, Some, refl, sym, ◌∙◌, ap, arith, add-one, add-suc, add-zero}
 use Rattle.std.specs.Prelude.{find, option_map, slice_index}
 use Rattle.std.specs.List.{range_with_len}
 use Rattle.std.proofs.lemmas.List.{length_push}
@@ -19,7 +20,8 @@ use Rattle.claim_table.specs.Priorities.{Setting}
 -- ---- the first of the numbers that passes a test
 
 module _ (test : ℕ → Bool) where
-  found_in : (a n i : ℕ) → i < n → ((k : ℕ) → k < i → test (a + k) ≡ false) → test (a + i) ≡ true → find test (range_with_len a n) ≡ Some (a + i)
+  found_in : (a n i : ℕ) → i < n → ((k : ℕ) → k < i → test (a + k) ≡ false) → test (a + i) ≡ true
+      → find test (range_with_len a n) ≡ Some (a + i)
   found_in a zero i within before here = absurd (omega (arith, within))
   found_in a (suc n) zero within before here =
       let first : a + 0 ≡ a = omega arith in
@@ -28,7 +30,8 @@ module _ (test : ℕ → Bool) where
       let first : a + 0 ≡ a = omega arith in
       let next : (k : ℕ) → a + suc k ≡ a + 1 + k = λ k. omega arith in
       ap (λ (b : Bool). if b then Some a else find test (range_with_len (a + 1) n)) (sym (ap test first) ∙ before 0 (omega arith))
-      ∙ found_in (a + 1) n i (omega (arith, within)) (λ k less. sym (ap test (next k)) ∙ before (suc k) (omega (arith, less))) (sym (ap test (next i)) ∙ here)
+      ∙ found_in (a + 1) n i (omega (arith, within)) (λ k less. sym (ap test (next k)) ∙ before (suc k) (omega (arith, less)))
+      (sym (ap test (next i)) ∙ here)
       ∙ ap (λ k. Some k) (sym (next i))
 
   none_in : (a n : ℕ) → ((k : ℕ) → k < n → test (a + k) ≡ false) → find test (range_with_len a n) ≡ None
@@ -61,11 +64,13 @@ module _ (moment : ℕ) (stock : Stock) (request : Request) (slots : List ℕ) w
   pub upto : (ℕ → PlainWorld → ℕ) → ℕ → ℕ
   upto gives n = sum_by (λ port. gives (slice_index slots port) (world_at moment stock request slots port)) (range_with_len 0 n)
 
-  pub upto-next : (gives : ℕ → PlainWorld → ℕ) (n : ℕ) → upto gives (n + 1) ≡ upto gives n + gives (slice_index slots n) (world_at moment stock request slots n)
+  pub upto-next : (gives : ℕ → PlainWorld → ℕ) (n : ℕ)
+      → upto gives (n + 1) ≡ upto gives n + gives (slice_index slots n) (world_at moment stock request slots n)
   unfolding upto
   upto-next gives n =
       let count : ℕ → ℕ = λ port. gives (slice_index slots port) (world_at moment stock request slots port) in
-      ap (λ k. sum_by count (range_with_len 0 k)) (add-one n) ∙ ap (sum_by count) (range-last 0 n n (omega arith)) ∙ sum_by_push count (range_with_len 0 n) n
+      ap (λ k. sum_by count (range_with_len 0 k)) (add-one n) ∙ ap (sum_by count) (range-last 0 n n (omega arith))
+      ∙ sum_by_push count (range_with_len 0 n) n
 
   upto-grows : (gives : ℕ → PlainWorld → ℕ) (n k : ℕ) → upto gives n ≤ upto gives (n + k)
   upto-grows gives n zero = let same = ap (upto gives) (add-zero n) in omega (arith, same)
@@ -89,7 +94,8 @@ module _ (moment : ℕ) (stock : Stock) (request : Request) (slots : List ℕ) w
       dock-next moment stock request slots i 0 w v fs within before ad docked ∙ ap (λ n. slots_world moment stock request (take n slots)) (add-one i)
 
 -- where one more is docked to the world of a request, the request is the same
-module _ (moment : ℕ) (stock : Stock) (request : Request) (slots : List ℕ) (w v : PlainWorld) (fs : List Frame) (before : w ≡ slots_world moment stock request slots) (docked : v ≡ with_docked w fs) where
+module _ (moment : ℕ) (stock : Stock) (request : Request) (slots : List ℕ) (w v : PlainWorld) (fs : List Frame)
+    (before : w ≡ slots_world moment stock request slots) (docked : v ≡ with_docked w fs) where
   pub docked-request : v.request ≡ ad_frames request.ad
   docked-request = ap (λ (u : PlainWorld). u.request) docked ∙ ap (λ (u : PlainWorld). u.request) before
 
@@ -102,18 +108,21 @@ docked-some w v fs docked =
     omega (arith, long, length_push w.docked fs)
 
 -- what is checked of the offer to a job
-module _ (moment : ℕ) (stock : Stock) (settings : List Setting) (jobs : List Job) (number : ℕ) (job : Job) (slots : List ℕ) (offered : slots ≡ offer_of job.standing) where
+module _ (moment : ℕ) (stock : Stock) (settings : List Setting) (jobs : List Job) (number : ℕ) (job : Job) (slots : List ℕ)
+    (offered : slots ≡ offer_of job.standing) where
   abbrev fails-at : ℕ → Bool
   fails-at port = not (passes moment stock settings jobs number (slice_index slots port) (world_at moment stock job.request slots port))
 
-  pub first-found : (i : ℕ) → i < length slots → ((k : ℕ) → k < i → passes moment stock settings jobs number (slice_index slots k) (world_at moment stock job.request slots k) ≡ true)
+  pub first-found : (i : ℕ) → i < length slots
+      → ((k : ℕ) → k < i → passes moment stock settings jobs number (slice_index slots k) (world_at moment stock job.request slots k) ≡ true)
       → passes moment stock settings jobs number (slice_index slots i) (world_at moment stock job.request slots i) ≡ false
       → Some (slice_index slots i) ≡ first_failing moment stock settings jobs number job.request (offer_of job.standing)
   first-found i within before here =
       sym (ap (first_failing moment stock settings jobs number job.request) (sym offered)
       ∙ ap (option_map (slice_index slots)) (found_at fails-at (length slots) i within (λ k less. ap not (before k less)) (ap not here)))
 
-  pub all-pass : (i : ℕ) → length slots ≤ i → ((k : ℕ) → k < i → passes moment stock settings jobs number (slice_index slots k) (world_at moment stock job.request slots k) ≡ true)
+  pub all-pass : (i : ℕ) → length slots ≤ i
+      → ((k : ℕ) → k < i → passes moment stock settings jobs number (slice_index slots k) (world_at moment stock job.request slots k) ≡ true)
       → None ≡ first_failing moment stock settings jobs number job.request (offer_of job.standing)
   all-pass i past before =
       sym (ap (first_failing moment stock settings jobs number job.request) (sym offered)

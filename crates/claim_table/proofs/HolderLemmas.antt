@@ -1,5 +1,6 @@
 -- Who holds a slot: it stands at its port, and there are as many slots as the request wants.
-use Rattle.std.proofs.Common.{◌≡◌, ◌≢◌, ℕ, zero, suc, ◌+◌, All, Bool, true, false, not, ◌||◌, cond, eqb, List, [], ◌∷◌, length, slice_get, Option, None, Some, refl, sym, ◌∙◌, ap, subst, arith}
+use Rattle.std.proofs.Common.{◌≡◌, ◌≢◌, ℕ, zero, suc, ◌+◌, All, Bool, true, false, not, ◌||◌, cond, eqb, List, [], ◌∷◌, length}
+use Rattle.std.proofs.Common.{slice_get, Option, None, Some, refl, sym, ◌∙◌, ap, subst, arith}
 use Rattle.std.specs.Prelude.{option_map}
 use Rattle.std.specs.List.{position_or_len}
 use Rattle.std.specs.Option.{option_and_then}
@@ -36,7 +37,8 @@ All-found P (first ∷ jobs) zero job all at = subst P (same_Some first job at) 
 All-found P (first ∷ jobs) (suc i) job all at = All-found P jobs i job (All-tail P first jobs all) at
 
 -- what holds of all that jobs hold holds of what the holder of a slot does
-pub holder-found : (P : Holding → Type 0) (settings : List Setting) (jobs : List Job) (slot : ℕ) (h : Holding) → All (λ job. P (holding_in settings slot job)) jobs → holder_of settings jobs slot ≡ Some h → P h
+pub holder-found : (P : Holding → Type 0) (settings : List Setting) (jobs : List Job) (slot : ℕ) (h : Holding)
+    → All (λ job. P (holding_in settings slot job)) jobs → holder_of settings jobs slot ≡ Some h → P h
 holder-found P settings jobs slot h all holds = by_number (claimed_by slot jobs) holds
   where
     by_job : (i : ℕ) (o : Option Job) → slice_get jobs i ≡ o → option_map (holding_in settings slot) o ≡ Some h → P h
@@ -47,17 +49,20 @@ holder-found P settings jobs slot h all holds = by_number (claimed_by slot jobs)
     by_number None is = absurd (none-some h is)
     by_number (Some i) is = by_job i (slice_get jobs i) refl is
 
-enough_at : (standing : Stage) (n slot : ℕ) → (standing ≢ Stage.Idle → length (slots_of standing) ≡ n) → lists (claim_of standing) slot ≡ true → length (claim_of standing) ≡ n
+enough_at : (standing : Stage) (n slot : ℕ) → (standing ≢ Stage.Idle → length (slots_of standing) ≡ n) → lists (claim_of standing) slot ≡ true
+    → length (claim_of standing) ≡ n
 enough_at Stage.Idle n slot enough listed = absurd (cc)
 enough_at (Stage.Matched slots) n slot enough listed = absurd (cc)
 enough_at (Stage.Claimed slots) n slot enough listed = enough (λ same. cc)
 
 -- a job that has claimed a slot has claimed as many as it wants
-pub claims_enough : (job : Job) (slot : ℕ) → IsFilled job → lists (claim_of job.standing) slot ≡ true → length (claim_of job.standing) ≡ wanted job.request
+pub claims_enough : (job : Job) (slot : ℕ) → IsFilled job → lists (claim_of job.standing) slot ≡ true
+    → length (claim_of job.standing) ≡ wanted job.request
 claims_enough job slot filled listed = enough_at job.standing (wanted job.request) slot filled.enough listed
 
 -- the job that claims a slot lists it
-pub claimed_lists : (claims : List (Option ℕ)) (jobs : List Job) (slot i : ℕ) (job : Job) → AreNoted claim_of claims jobs → Some i ≡ claimed_by slot jobs → slice_get jobs i ≡ Some job → lists (claim_of job.standing) slot ≡ true
+pub claimed_lists : (claims : List (Option ℕ)) (jobs : List Job) (slot i : ℕ) (job : Job) → AreNoted claim_of claims jobs
+    → Some i ≡ claimed_by slot jobs → slice_get jobs i ≡ Some job → lists (claim_of job.standing) slot ≡ true
 claimed_lists claims jobs slot i job noted is at =
     noted-passes (λ j. lists (claim_of j.standing) slot) jobs (note_at claims slot) i job (noted slot)
     (noted-position (λ j. lists (claim_of j.standing) slot) jobs (note_at claims slot) (noted slot) ∙ sym is) at

@@ -3,9 +3,10 @@ pub mod ClaimLemmas
 pub mod FailingLemmas
 pub mod HolderLemmas
 pub mod ListLemmas
+pub mod ListedLemmas
 pub mod LoserLemmas
-pub mod NameLemmas
 pub mod NoteLemmas
+pub mod NumberLemmas
 pub mod PassingLemmas
 pub mod SmallLemmas
 pub mod StoredLemmas

@@ -1,5 +1,6 @@
 -- Which jobs lose their resources to a claim, and what the jobs are once these are idle.
-use Rattle.std.proofs.Common.{◌≡◌, ℕ, zero, suc, ◌<◌, All, Bool, true, false, ◌||◌, cond, eqb, List, [], ◌∷◌, ◌++◌, fold, get_or, length, slice_get, slice_set, Option, None, Some, IfSome, refl, sym, ◌∙◌, ap, subst, arith}
+use Rattle.std.proofs.Common.{◌≡◌, ℕ, zero, suc, ◌<◌, All, Bool, true, false, ◌||◌, cond, eqb, List, [], ◌∷◌, ◌++◌, fold, get_or}
+use Rattle.std.proofs.Common.{length, slice_get, slice_set, Option, None, Some, IfSome, refl, sym, ◌∙◌, ap, subst, arith}
 use Rattle.std.specs.Option.{option_map_or}
 use Rattle.std.specs.Prelude.{option_map}
 use Rattle.std.proofs.lemmas.Bool.Decides.{nat_tests}
@@ -59,7 +60,8 @@ module _ (test : Job → Bool) (fails : (job : Job) → test (record job { stand
       here none false same = refl
 
       by : (o : Option Job) → slice_get jobs k ≡ o
-          → passes_at test (option_map_or (λ job. slice_set jobs k (record job { standing = Stage.Idle })) o jobs) j ≡ cond (eqb k j) false (passes_at test jobs j)
+          → passes_at test (option_map_or (λ job. slice_set jobs k (record job { standing = Stage.Idle })) o jobs) j
+          ≡ cond (eqb k j) false (passes_at test jobs j)
       by None none = here none (eqb k j) refl
       by (Some job) at =
           passes_at-set test jobs k j job (record job { standing = Stage.Idle }) at
@@ -71,7 +73,8 @@ module _ (test : Job → Bool) (fails : (job : Job) → test (record job { stand
   both_fail false true c = refl
   both_fail false false c = refl
 
-  passes_at-all_idle : (jobs : List Job) (numbers : List ℕ) (j : ℕ) → passes_at test (all_idle jobs numbers) j ≡ cond (lists numbers j) false (passes_at test jobs j)
+  passes_at-all_idle : (jobs : List Job) (numbers : List ℕ) (j : ℕ)
+      → passes_at test (all_idle jobs numbers) j ≡ cond (lists numbers j) false (passes_at test jobs j)
   passes_at-all_idle jobs [] j = refl
   passes_at-all_idle jobs (k ∷ ks) j =
       passes_at-all_idle (idle_at (Some k) jobs) ks j
@@ -131,20 +134,26 @@ module _ (jobs : List Job) where
   gathered-keeps [] numbers k listed = listed
   gathered-keeps (s ∷ slots) numbers k listed = gathered-keeps slots (once numbers (claimed_by s jobs)) k (once-keeps numbers (claimed_by s jobs) k listed)
 
-  gathered-has : (slots numbers : List ℕ) (slot k : ℕ) → lists slots slot ≡ true → claimed_by slot jobs ≡ Some k → lists (gathered numbers slots) k ≡ true
+  gathered-has : (slots numbers : List ℕ) (slot k : ℕ) → lists slots slot ≡ true → claimed_by slot jobs ≡ Some k
+      → lists (gathered numbers slots) k ≡ true
   gathered-has [] numbers slot k listed is = absurd (cc)
-  gathered-has (s ∷ slots) numbers slot k listed is = by (eqb s slot) refl listed (λ rest. gathered-has slots (once numbers (claimed_by s jobs)) slot k rest is)
+  gathered-has (s ∷ slots) numbers slot k listed is =
+      by (eqb s slot) refl listed (λ rest. gathered-has slots (once numbers (claimed_by s jobs)) slot k rest is)
     where
-      by : (b : Bool) → eqb s slot ≡ b → (b || lists slots slot) ≡ true → (lists slots slot ≡ true → lists (gathered (once numbers (claimed_by s jobs)) slots) k ≡ true) → lists (gathered (once numbers (claimed_by s jobs)) slots) k ≡ true
+      by : (b : Bool) → eqb s slot ≡ b → (b || lists slots slot) ≡ true
+          → (lists slots slot ≡ true → lists (gathered (once numbers (claimed_by s jobs)) slots) k ≡ true)
+          → lists (gathered (once numbers (claimed_by s jobs)) slots) k ≡ true
       by true same first later =
           let here : s ≡ slot = grind (arith, nat_tests) in
           gathered-keeps slots (once numbers (claimed_by s jobs)) k
           (subst (λ o. lists (once numbers o) k ≡ true) (sym (ap (λ t. claimed_by t jobs) here ∙ is)) (once-adds numbers k))
       by false same rest later = later rest
 
-  gathered-all : (P : ℕ → Type 0) → ((slot : ℕ) → IfSome (claimed_by slot jobs) P) → (slots numbers : List ℕ) → All P numbers → All P (gathered numbers slots)
+  gathered-all : (P : ℕ → Type 0) → ((slot : ℕ) → IfSome (claimed_by slot jobs) P) → (slots numbers : List ℕ) → All P numbers
+      → All P (gathered numbers slots)
   gathered-all P each [] numbers all = all
-  gathered-all P each (s ∷ slots) numbers all = gathered-all P each slots (once numbers (claimed_by s jobs)) (All-once P numbers (claimed_by s jobs) all (each s))
+  gathered-all P each (s ∷ slots) numbers all =
+      gathered-all P each slots (once numbers (claimed_by s jobs)) (All-once P numbers (claimed_by s jobs) all (each s))
 
 -- ---- who claims what
 
@@ -184,7 +193,8 @@ module _ (claims : List (Option ℕ)) (jobs : List Job) (noted : AreNoted claim_
           by (Some k) is = passes_within (λ job. lists (claim_of job.standing) is.0) jobs k is.1
 
   -- a job that something is offered to has claimed nothing, so it is none of them
-  matched_wins : (slots : List ℕ) (i : ℕ) → option_map (λ job. state_of job.standing) (slice_get jobs i) ≡ Some JobState.Matched → lists (losers jobs slots) i ≡ false
+  matched_wins : (slots : List ℕ) (i : ℕ) → option_map (λ job. state_of job.standing) (slice_get jobs i) ≡ Some JobState.Matched
+      → lists (losers jobs slots) i ≡ false
   matched_wins slots i matched = by (lists (losers jobs slots) i) refl
     where
       claims_none : (standing : Stage) (slot : ℕ) → state_of standing ≡ JobState.Matched → lists (claim_of standing) slot ≡ false
@@ -192,7 +202,8 @@ module _ (claims : List (Option ℕ)) (jobs : List Job) (noted : AreNoted claim_
       claims_none (Stage.Matched offered) slot is = refl
       claims_none (Stage.Claimed claimed) slot is = absurd (cc)
 
-      idle_hands : (slot : ℕ) (o : Option Job) → option_map (λ job. state_of job.standing) o ≡ Some JobState.Matched → option_map_or (λ job. lists (claim_of job.standing) slot) o false ≡ false
+      idle_hands : (slot : ℕ) (o : Option Job) → option_map (λ job. state_of job.standing) o ≡ Some JobState.Matched
+          → option_map_or (λ job. lists (claim_of job.standing) slot) o false ≡ false
       idle_hands slot None is = refl
       idle_hands slot (Some job) is = claims_none job.standing slot (cc)
 
@@ -213,7 +224,8 @@ module _ (claims : List (Option ℕ)) (jobs : List Job) (noted : AreNoted claim_
           (λ j. sym (passes_at-all_idle (λ job. lists (claim_of job.standing) slot) (λ job. refl) jobs (losers jobs slots) j
           ∙ by j (lists (losers jobs slots) j) (passes_at (λ job. lists (claim_of job.standing) slot) jobs j) refl refl))
         where
-          by : (j : ℕ) (loses claiming : Bool) → lists (losers jobs slots) j ≡ loses → passes_at (λ job. lists (claim_of job.standing) slot) jobs j ≡ claiming → cond loses false claiming ≡ false
+          by : (j : ℕ) (loses claiming : Bool) → lists (losers jobs slots) j ≡ loses
+              → passes_at (λ job. lists (claim_of job.standing) slot) jobs j ≡ claiming → cond loses false claiming ≡ false
           by j true claiming loses is = refl
           by j false false loses is = refl
           by j false true loses is =
@@ -235,5 +247,6 @@ module _ (claims : List (Option ℕ)) (jobs : List Job) (noted : AreNoted claim_
     pub same-offer : offer_at i (all_idle jobs (losers jobs (offer_at i jobs))) ≡ offer_at i jobs
     same-offer = ap (λ o. option_map_or (λ (job : Job). offer_of job.standing) o []) same-job
 
-    pub offer-left : All (λ slot. claimed_by slot (all_idle jobs (losers jobs (offer_at i jobs))) ≡ None) (offer_at i (all_idle jobs (losers jobs (offer_at i jobs))))
+    pub offer-left : All (λ slot. claimed_by slot (all_idle jobs (losers jobs (offer_at i jobs))) ≡ None)
+        (offer_at i (all_idle jobs (losers jobs (offer_at i jobs))))
     offer-left = subst (All (λ slot. claimed_by slot rest ≡ None)) (sym same-offer) (losers_leave (offer_at i jobs))

@@ -17,7 +17,8 @@ module _ (P : ℕ → Type 0) where
   abbrev Listed : Job → Type 0
   Listed job = All P (slots_of job.standing)
 
-  standing-keeps : (jobs : List Job) (i : ℕ) (standing : Stage) → All Listed jobs → All P (slots_of standing) → All Listed (with_standing jobs i standing)
+  standing-keeps : (jobs : List Job) (i : ℕ) (standing : Stage) → All Listed jobs → All P (slots_of standing)
+      → All Listed (with_standing jobs i standing)
   standing-keeps jobs i standing all new = by (slice_get jobs i)
     where
       by : (o : Option Job) → All Listed (option_map_or (λ job. slice_set jobs i (record job { standing = standing })) o jobs)
@@ -38,14 +39,17 @@ module _ (P : ℕ → Type 0) where
     abbrev gained : ℕ → List ℕ → Answer
     gained i slots = (Ok (freed_all jobs (losers jobs slots)), granted jobs i slots)
 
-    checked-keeps : (i : ℕ) (slots : List ℕ) → All P slots → (o : Option ℕ) → All Listed (option_map_or (λ slot. (Err (ClaimFault.Stale slot), with_standing jobs i Stage.Idle)) o (gained i slots)).1
-    checked-keeps i slots offered None = standing-keeps (all_idle jobs (losers jobs slots)) i (Stage.Claimed slots) (idle-keeps jobs (losers jobs slots) all) offered
+    checked-keeps : (i : ℕ) (slots : List ℕ) → All P slots → (o : Option ℕ)
+        → All Listed (option_map_or (λ slot. (Err (ClaimFault.Stale slot), with_standing jobs i Stage.Idle)) o (gained i slots)).1
+    checked-keeps i slots offered None =
+        standing-keeps (all_idle jobs (losers jobs slots)) i (Stage.Claimed slots) (idle-keeps jobs (losers jobs slots) all) offered
     checked-keeps i slots offered (Some slot) = standing-keeps jobs i Stage.Idle all (All-nil P)
 
     at-keeps : (i : ℕ) (job : Job) (s : Stage) → All P (slots_of s) → All Listed (claimed_at moment stock settings jobs i (record job { standing = s })).1
     at-keeps i job Stage.Idle offered = all
     at-keeps i job (Stage.Claimed slots) offered = all
-    at-keeps i job (Stage.Matched slots) offered = checked-keeps i slots offered (first_failing moment stock settings jobs (priority_of job.user settings) job.request slots)
+    at-keeps i job (Stage.Matched slots) offered =
+        checked-keeps i slots offered (first_failing moment stock settings jobs (priority_of job.user settings) job.request slots)
 
     one-keeps : (i : ℕ) (o : Option Job) → slice_get jobs i ≡ o → All Listed (option_map_or (claimed_at moment stock settings jobs i) o nobody).1
     one-keeps i None at = all
@@ -54,12 +58,14 @@ module _ (P : ℕ → Type 0) where
     claimed-keeps : All Listed (claimed moment stock settings name jobs).1
     claimed-keeps = by (numbered name jobs)
       where
-        by : (o : Option ℕ) → All Listed (option_map_or (λ i. option_map_or (claimed_at moment stock settings jobs i) (slice_get jobs i) nobody) o nobody).1
+        by : (o : Option ℕ)
+            → All Listed (option_map_or (λ i. option_map_or (claimed_at moment stock settings jobs i) (slice_get jobs i) nobody) o nobody).1
         by None = all
         by (Some i) = one-keeps i (slice_get jobs i) refl
 
     -- after a claim, whatever it answers
-    pub claim-keeps : (answer : Result (List Freed) ClaimFault) (new : List Job) → IsClaimed answer jobs new (claimed moment stock settings name jobs) → All Listed new
+    pub claim-keeps : (answer : Result (List Freed) ClaimFault) (new : List Job) → IsClaimed answer jobs new (claimed moment stock settings name jobs)
+        → All Listed new
     claim-keeps answer new is = by answer is
       where
         told : (a : Result (List Freed) ClaimFault) → claimed moment stock settings name jobs ≡ (a, new) → All Listed new

@@ -1,5 +1,6 @@
 -- A claim: the resources that are offered to a job are checked anew, one after another, before the job has them.
-use Rattle.std.specs.Prelude.{◌≡◌, ℕ, suc, ◌+◌, ◌*◌, Bool, not, ◌&&◌, List, [], ◌∷◌, ◌++◌, find, flat_map, fold, length, slice_get, slice_index, sum_by, take, Option, None, Some, option_map, Result, Ok, Err, if◌then◌else◌}
+use Rattle.std.specs.Prelude.{◌≡◌, ℕ, suc, ◌+◌, ◌*◌, Bool, not, ◌&&◌, List, [], ◌∷◌, ◌++◌, find, flat_map, fold, length}
+use Rattle.std.specs.Prelude.{slice_get, slice_index, sum_by, take, Option, None, Some, option_map, Result, Ok, Err, if◌then◌else◌}
 use Rattle.std.specs.List.{range_with_len}
 use Rattle.std.specs.Option.{option_map_or}
 use Rattle.ad_tree.specs.declared.request.Request.{Request}
@@ -116,7 +117,8 @@ offer_named name jobs = option_map_or (λ job. offer_of job.standing) (job_named
 -- what the docks of an offer give together
 abbrev pub sum_over : (ℕ → PlainWorld → ℕ) → ℕ → Stock → Job → ℕ
 sum_over gives moment stock job =
-    sum_by (λ port. gives (slice_index (offer_of job.standing) port) (world_at moment stock job.request (offer_of job.standing) port)) (ports_of (offer_of job.standing))
+    sum_by (λ port. gives (slice_index (offer_of job.standing) port) (world_at moment stock job.request (offer_of job.standing) port))
+    (ports_of (offer_of job.standing))
 
 -- how many docks of the offer of the job of a name literal attributes leave undecided
 abbrev pub undecided_for : ℕ → Stock → List ℕ → List Job → ℕ

@@ -1,5 +1,6 @@
 -- The jobs in the order of their submission, and the rules for them.
-use Rattle.std.specs.Prelude.{◌≡◌, ◌≢◌, ℕ, ◌+◌, All, AllPairs, Bool, true, ◌==◌, nat_le, nat_lt, List, [], length, max, position, slice_get, slice_set, sum_by, Option, None, Some, bytes_eq, if◌then◌else◌}
+use Rattle.std.specs.Prelude.{◌≡◌, ◌≢◌, ℕ, ◌+◌, All, AllPairs, Bool, true, ◌==◌, nat_le, nat_lt, List, [], length, max, position}
+use Rattle.std.specs.Prelude.{slice_get, slice_set, sum_by, Option, None, Some, bytes_eq, if◌then◌else◌}
 use Rattle.std.specs.List.{list_any}
 use Rattle.std.specs.Option.{option_and_then, option_map_or}
 use Rattle.ad_tree.specs.declared.request.Request.{Request}
@@ -57,7 +58,9 @@ claimed_by slot jobs = position (λ job. lists (claim_of job.standing) slot) job
 
 -- no two jobs list one slot in this part of their standings
 abbrev pub AreExclusive : (Stage → List ℕ) → List Job → Type 0
-AreExclusive part jobs = (slot i j : ℕ) (a b : Job) → slice_get jobs i ≡ Some a → slice_get jobs j ≡ Some b → lists (part a.standing) slot ≡ true → lists (part b.standing) slot ≡ true → i ≡ j
+AreExclusive part jobs =
+    (slot i j : ℕ) (a b : Job) → slice_get jobs i ≡ Some a → slice_get jobs j ≡ Some b → lists (part a.standing) slot ≡ true
+    → lists (part b.standing) slot ≡ true → i ≡ j
 
 -- none of the slots is offered to a job
 abbrev pub AreFree : List ℕ → List Job → Type 0

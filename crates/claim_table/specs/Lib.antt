@@ -8,3 +8,5 @@ pub mod Priorities
 pub mod Settings
 pub mod Small
 pub mod Table
+pub mod Listed
+pub mod JobList

@@ -1,17 +1,20 @@
 -- The priorities of users: a lower number is better.
-use Rattle.std.specs.Prelude.{ℕ, ◌≤◌, ◌^◌, Bool, not, ◌&&◌, nat_le, List, [], ◌∷◌, find, length, Vec, bytes_eq, if◌then◌else◌}
-use Rattle.std.specs.declared.alloc.Global.{Global}
+use Rattle.std.specs.Prelude.{◌≡◌, ℕ, ◌≤◌, ◌^◌, Bool, not, ◌&&◌, nat_le, List, [], ◌∷◌, find, length, position, bytes_eq, Option, if◌then◌else◌}
+use Rattle.std.specs.declared.cmp.Ordering.{Ordering}
+use Rattle.std.specs.Cmp.Lexicographic.{slice_cmp}
 use Rattle.std.specs.List.{list_any}
 use Rattle.std.specs.Option.{option_map_or}
+use Rattle.std.specs.Ordering.{nat_cmp, ordering_then}
+use Rattle.claim_table.specs.declared.priorities.UserPriority.{UserPriority}
 
 -- a user whose priority is set
 pub record Setting : Type 0 where
   pub user : List ℕ
   pub number : ℕ
 
--- an entry of a map as a setting
-abbrev pub setting_of : Vec ℕ Global × ℕ → Setting
-setting_of entry = record { user = entry.0.items; number = entry.1 }
+-- a user's priority as a setting
+abbrev pub setting_of : UserPriority → Setting
+setting_of priority = record { user = priority.user.items; number = priority.number }
 
 -- a number that may be set
 abbrev pub IsInRange : Setting → Type 0
@@ -25,9 +28,17 @@ is_of user setting = bytes_eq user setting.user
 abbrev pub default_priority : ℕ
 default_priority = 1000
 
+-- each name leads to the place of the user's setting, and to none where none is set
+abbrev pub ArePlaced : (List ℕ → Option ℕ) → List Setting → Type 0
+ArePlaced place settings = (user : List ℕ) → place user ≡ position (is_of user) settings
+
 -- the priority of a user: the one that is set, or else the default
 abbrev pub priority_of : List ℕ → List Setting → ℕ
 priority_of user settings = option_map_or (λ setting. setting.number) (find (is_of user) settings) default_priority
+
+-- users by priority, where a lower number is better, and then by name, byte for byte
+abbrev pub user_order : (List ℕ → ℕ) → List ℕ → List ℕ → Ordering
+user_order priority a b = ordering_then (nat_cmp (priority a) (priority b)) (slice_cmp nat_cmp a b)
 
 -- the settings with one more, which takes the place of the one of its user, or goes last
 abbrev pub with_setting : Setting → List Setting → List Setting

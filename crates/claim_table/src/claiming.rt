@@ -20,7 +20,7 @@ ghost use Rattle.claim_table.specs.Small.{AreSmallJobs};
 ghost use Rattle.claim_table.specs.Table.{jobs_of};
 
 use crate::notes::put;
-use crate::{ClaimFault, ClaimTable, FreedList, Job, JobState, Priorities, Standing};
+use crate::{ClaimFault, ClaimTable, FreedList, Job, JobState, Priorities, Stage, Standing};
 use ad_eval::rank;
 use ad_store::{Holdings, Store};
 use ad_tree::{Ad, Request};
@@ -56,16 +56,17 @@ impl ClaimTable {
         touch: &mut Steps<T>,
     ) -> Result<FreedList, ClaimFault>
         requires { All (λ job. All (Contains (stock_of store.now).slots) (slots_of job.standing)) (jobs_of self.old) }
-        ensures claim { claims.IsClaimed result (jobs_of self.old) (jobs_of self.new) (claims.claimed moment (stock_of store.now) (settings_of priorities.now) name.now (jobs_of self.old)) }
+        ensures claim { claims.IsClaimed result (jobs_of self.old) (jobs_of self.new)
+            (claims.claimed moment (stock_of store.now) (settings_of priorities.now) name.now (jobs_of self.old)) }
         ensures evaluations { tops.new ≤ tops.old + 4 * claims.undecided_for moment (stock_of store.now) name.now (jobs_of self.old) }
         ensures entries { entry.new ≤ entry.old + claims.entered_for moment (stock_of store.now) (settings_of priorities.now) name.now (jobs_of self.old) }
         ensures ratio { AreSmallAds (stock_of store.now).ads → AreSmallJobs (jobs_of self.old) → entry.new + 9216 * tops.old ≤ entry.old + 9216 * tops.new }
         ensures looks { touch.new ≤ touch.old + 9 * length (claims.offer_named name.now (jobs_of self.old)) }
     {
-        let Some(i) = self.find(name) else {
+        let Some(i) = self.number(name) else {
             return Err(ClaimFault::NoJob);
         };
-        let job = &self.jobs[i];
+        let job = self.jobs.at(i);
         let state = job.standing.state();
         if state != JobState::Matched {
             return Err(ClaimFault::WrongState(state));
@@ -101,10 +102,14 @@ impl ClaimTable {
         requires stored { All (λ j. All (Contains (stock_of store.now).slots) (slots_of j.standing)) (jobs_of self.now) }
         requires offered { All (Contains (stock_of store.now).slots) (offer_of job.now.standing) }
         requires few { length (offer_of job.now.standing) ≤ 8 }
-        ensures failing { IfOk result (λ slot. slot ≡ claims.first_failing moment (stock_of store.now) (settings_of priorities.now) (jobs_of self.now) number job.now.request (offer_of job.now.standing)) }
-        ensures evaluations { tops.new ≤ tops.old + 4 * claims.sum_over (λ slot world. if is_last_decided world then 0 else 1) moment (stock_of store.now) job.now }
-        ensures entries { entry.new ≤ entry.old + claims.sum_over (claims.entered_in moment (stock_of store.now) (settings_of priorities.now) (jobs_of self.now)) moment (stock_of store.now) job.now }
-        ensures ratio { IsSmall (ad_frames job.now.request.ad) → AreSmallAds (stock_of store.now).ads → AreSmallJobs (jobs_of self.now) → entry.new + 9216 * tops.old ≤ entry.old + 9216 * tops.new }
+        ensures failing { IfOk result (λ slot. slot ≡ claims.first_failing moment (stock_of store.now) (settings_of priorities.now) (jobs_of
+            self.now) number job.now.request (offer_of job.now.standing)) }
+        ensures evaluations { tops.new ≤ tops.old + 4 * claims.sum_over (λ slot world. if is_last_decided world then 0 else 1) moment (stock_of
+            store.now) job.now }
+        ensures entries { entry.new ≤ entry.old + claims.sum_over (claims.entered_in moment (stock_of store.now) (settings_of priorities.now)
+            (jobs_of self.now)) moment (stock_of store.now) job.now }
+        ensures ratio { IsSmall (ad_frames job.now.request.ad) → AreSmallAds (stock_of store.now).ads → AreSmallJobs (jobs_of self.now)
+            → entry.new + 9216 * tops.old ≤ entry.old + 9216 * tops.new }
         ensures looks { touch.new ≤ touch.old + 9 * length (offer_of job.now.standing) }
     {
         let request = &job.request;
@@ -142,10 +147,13 @@ impl ClaimTable {
         requires ports { (world_of world.now).ports ≡ request.now.ports }
         requires docked { 0 < length (world_of world.now).docked }
         requires last { last_ad (world_of world.now) ≡ ad_frames ad.now }
-        ensures passes { IfOk result (λ b. b ≡ claims.passes moment (stock_of store.now) (settings_of priorities.now) (jobs_of self.now) number slot (world_of world.now)) }
+        ensures passes { IfOk result (λ b. b ≡ claims.passes moment (stock_of store.now) (settings_of priorities.now) (jobs_of self.now) number slot (world_of
+            world.now)) }
         ensures evaluations { tops.new ≤ tops.old + 4 * (if is_last_decided (world_of world.now) then 0 else 1) }
-        ensures entries { entry.new ≤ entry.old + claims.entered_in moment (stock_of store.now) (settings_of priorities.now) (jobs_of self.now) slot (world_of world.now) }
-        ensures ratio { AreSmall (world_of world.now) → AreSmallAds (stock_of store.now).ads → AreSmallJobs (jobs_of self.now) → entry.new + 9216 * tops.old ≤ entry.old + 9216 * tops.new }
+        ensures entries { entry.new ≤ entry.old + claims.entered_in moment (stock_of store.now) (settings_of priorities.now) (jobs_of self.now) slot (world_of
+            world.now) }
+        ensures ratio { AreSmall (world_of world.now) → AreSmallAds (stock_of store.now).ads → AreSmallJobs (jobs_of self.now)
+            → entry.new + 9216 * tops.old ≤ entry.old + 9216 * tops.new }
         ensures looks { touch.new ≤ touch.old + 8 }
     {
         let Some(sides) = open_sides(self.alloc, request, world.request_place().frame, ad) else {
@@ -173,11 +181,13 @@ impl ClaimTable {
         touch: &mut Steps<T>,
     ) -> Result<bool, OutOfMemory>
         requires { All (λ j. All (Contains (stock_of store.now).slots) (slots_of j.standing)) (jobs_of self.now) }
-        ensures won { IfOk result (λ b. b ≡ claims.is_won moment (stock_of store.now) (settings_of priorities.now) (jobs_of self.now) number slot (world_of world.now)) }
+        ensures won { IfOk result (λ b. b ≡ claims.is_won moment (stock_of store.now) (settings_of priorities.now) (jobs_of self.now) number slot (world_of
+            world.now)) }
         ensures evaluations { tops.new ≤ tops.old + 2 }
         ensures entries { entry.new ≤ entry.old + attribute_count (world_of world.now)
             + option_map_or (λ holding. attribute_count (holder_world moment (stock_of store.now) holding)) (holder_of (settings_of priorities.now) (jobs_of self.now) slot) 0 }
-        ensures ratio { AreSmall (world_of world.now) → AreSmallAds (stock_of store.now).ads → AreSmallJobs (jobs_of self.now) → entry.new + 9216 * tops.old ≤ entry.old + 9216 * tops.new }
+        ensures ratio { AreSmall (world_of world.now) → AreSmallAds (stock_of store.now).ads → AreSmallJobs (jobs_of self.now)
+            → entry.new + 9216 * tops.old ≤ entry.old + 9216 * tops.new }
         ensures looks { touch.new ≤ touch.old + 8 }
     {
         let standing = Standing {
@@ -198,11 +208,12 @@ impl ClaimTable {
     // Job `i` claims what is offered to it, also from the jobs that have claimed it. Memory is taken first.
     fn grant(&mut self, i: usize) -> Result<FreedList, OutOfMemory>
         requires { option_map (λ job. state_of job.standing) (slice_get (jobs_of self.old) i) ≡ Some JobState.Matched }
-        ensures freed { IfOk result (λ list. list ≡ claims.freed_all (jobs_of self.old) (claims.losers (jobs_of self.old) (claims.offer_at i (jobs_of self.old)))) }
+        ensures freed { IfOk result (λ list. list ≡ claims.freed_all (jobs_of self.old) (claims.losers (jobs_of self.old)
+            (claims.offer_at i (jobs_of self.old)))) }
         ensures ok { OnOk result (jobs_of self.new ≡ claims.granted (jobs_of self.old) i (claims.offer_at i (jobs_of self.old))) }
         ensures err { OnErr result (jobs_of self.new ≡ jobs_of self.old) }
     {
-        let losers = self.losers(self.jobs[i].standing.offer())?;
+        let losers = self.losers(self.jobs.at(i).standing.offer())?;
         let freed = self.tell_all(losers.as_slice())?;
         self.make_all_idle(losers.as_slice());
         self.settle(i);
@@ -248,10 +259,13 @@ impl ClaimTable {
         requires free { All (λ slot. claimed_by slot (jobs_of self.old) ≡ None) (claims.offer_at i (jobs_of self.old)) }
         ensures { jobs_of self.new ≡ with_standing (jobs_of self.old) i (Stage.Claimed (claims.offer_at i (jobs_of self.old))) }
     {
-        let slots = self.jobs[i].standing.offer();
-        put(&mut self.offers, slots, None);
-        put(&mut self.claims, slots, Some(i));
-        self.jobs[i].standing.settle(self.alloc);
+        let job = self.jobs.slot(i);
+        let was = self.jobs.restand(i, Stage::Idle);
+        put(&mut self.offers, was.offer(), None);
+        put(&mut self.claims, was.offer(), Some(job));
+        let _idle = self
+            .jobs
+            .restand(i, Stage::Claimed(was.into_slots(self.alloc)));
     }
 }
 

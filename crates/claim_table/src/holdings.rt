@@ -31,7 +31,7 @@ impl Holdings for Standing<'_> {
         let Some(i) = self.claims.claimed_by(slot) else {
             return None;
         };
-        let job = &self.claims.jobs[i];
+        let job = self.claims.jobs.at(i);
         let slots = job.standing.claim();
         Some(Held {
             request: &job.request,

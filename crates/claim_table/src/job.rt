@@ -8,7 +8,6 @@ use ad_tree::Request;
 use pool_text::{Slots, Text};
 use std::alloc::Global;
 use std::convert::AsSlice;
-use std::mem::replace;
 
 /// A job, as the table holds it.
 #[derive(Drop)]
@@ -80,13 +79,5 @@ impl Stage {
             Stage::Matched(slots) => slots,
             Stage::Claimed(slots) => slots,
         }
-    }
-
-    /// What was offered is claimed.
-    pub(crate) fn settle(&mut self, alloc: Global)
-        ensures { self.new ≡ Stage.Claimed (slots_of self.old) }
-    {
-        let was = replace(self, Stage::Idle);
-        let _idle = replace(self, Stage::Claimed(was.into_slots(alloc)));
     }
 }

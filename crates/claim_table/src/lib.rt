@@ -5,6 +5,7 @@ mod answers;
 mod claiming;
 mod holdings;
 mod job;
+mod job_list;
 mod notes;
 mod priorities;
 mod table;

@@ -1,4 +1,4 @@
-// The number of the job that lists a slot, noted at the slot.
+// The slot of the job that lists a resource, noted at the resource's slot.
 ghost use Rattle.std.specs.Prelude.{◌≡◌, ◌+◌, ◌-◌, ◌<◌, ◌≤◌, ℕ, All, None, Some, length, max, nat_lt, vec_len, option_map, if◌then◌else◌, OnOk};
 ghost use Rattle.claim_table.specs.Jobs.{lists};
 ghost use Rattle.claim_table.specs.Kept.{note_at};
@@ -59,24 +59,4 @@ pub(crate) fn widen(
         reach(offers, *slot)?;
     }
     Ok(())
-}
-
-/// Makes the numbers above one that is gone smaller by one.
-pub(crate) fn close_gap(notes: &mut Vec<Option<usize>>, gone: usize)
-    ensures notes { (slot : ℕ) → note_at notes.new.items slot
-        ≡ option_map (λ k. if nat_lt gone k then k - 1 else k) (note_at notes.old.items slot) }
-    ensures len { vec_len notes.new ≡ vec_len notes.old }
-{
-    for i in 0..notes.len() {
-        notes[i] = behind_gap(notes[i], gone);
-    }
-}
-
-// A number once one is gone. Whether it stands above that is hard to foretell, so there is no branch for it.
-#[inline(always)]
-fn behind_gap(note: Option<usize>, gone: usize) -> Option<usize>
-    ensures { result ≡ option_map (λ k. if nat_lt gone k then k - 1 else k) note }
-{
-    let number = note?;
-    Some(number - usize::from(gone < number))
 }

@@ -1,26 +1,37 @@
 // The priorities of users.
-ghost use Rattle.std.specs.Prelude.{◌≡◌, ◌<◌, ◌≤◌, ◌^◌, [], All, IfErr, OnErr, OnOk, Some, false, length, map, option_map, slice_get};
+ghost use Rattle.std.specs.Prelude.{◌≡◌, ◌<◌, ◌≤◌, ◌^◌, ◌++◌, ◌∷◌, [], All, IfErr, None, OnErr, OnOk, Some, false, length, map, option_map, position, slice_get};
+ghost use Rattle.slot_order.specs.Names.{slot_at};
 ghost use Rattle.claim_table.specs.Causes.{IsCause};
-ghost use Rattle.claim_table.specs.Priorities.{IsInRange, lacks_place, priority_of, setting_of, settings_limit, with_setting};
+ghost use Rattle.claim_table.specs.Priorities.{ArePlaced, IsInRange, is_of, lacks_place, priority_of, setting_of, settings_limit, with_setting};
 
 use crate::PriorityFault;
-use indexmap::IndexMap;
 use pool_text::OutOfMemory;
+use slot_order::SlotNames;
 use std::alloc::Global;
 
 const SETTINGS_LIMIT: usize = 10_000;
 
 const DEFAULT_PRIORITY: u64 = 1_000;
 
+/// A user with the priority that is set.
+#[derive(Drop)]
+pub struct UserPriority {
+    user: Vec<u8>,
+    number: u64,
+}
+
 /// The priorities that are set, each for a user. A lower number is better; a user for whom none is set has 1,000.
 ///
-/// A user is found by the hash of the name, which takes no memory.
+/// A user is found by name in few steps, whatever the names are, which takes no memory.
 #[derive(Drop)]
 pub struct Priorities {
     alloc: Global,
-    numbers: IndexMap<Vec<u8>, u64>,
-    ghost within: { All IsInRange (map setting_of numbers.entries) },
-    ghost few: { length (map setting_of numbers.entries) ≤ settings_limit },
+    // The place of each user among the settings.
+    places: SlotNames,
+    settings: Vec<UserPriority>,
+    ghost placed: { ArePlaced (slot_at places) (map setting_of settings.items) },
+    ghost within: { All IsInRange (map setting_of settings.items) },
+    ghost few: { length (map setting_of settings.items) ≤ settings_limit },
 }
 
 impl Priorities {
@@ -32,7 +43,8 @@ impl Priorities {
     {
         Priorities {
             alloc,
-            numbers: IndexMap::new(alloc),
+            places: SlotNames::new(alloc),
+            settings: Vec::new(alloc),
         }
     }
 
@@ -48,12 +60,36 @@ impl Priorities {
         ensures cause { IfErr result (λ fault. IsCause fault (lacks_place user.now (settings_of self.old))) }
         ensures err { OnErr result (settings_of self.new ≡ settings_of self.old) }
     {
-        if self.is_full_for(user) {
+        if let Some(place) = self.places.get(user) {
+            self.settings[place].number = n;
+            return Ok(());
+        }
+        if self.settings.len() >= SETTINGS_LIMIT {
             return Err(PriorityFault::Full);
         }
-        if enter(self.alloc, &mut self.numbers, user, n).is_err() {
-            return Err(PriorityFault::OutOfMemory);
+        match self.add(user, n) {
+            Ok(()) => Ok(()),
+            Err(OutOfMemory) => Err(PriorityFault::OutOfMemory),
         }
+    }
+
+    // Sets the priority of a user who has none.
+    fn add(&mut self, user: &[u8], n: u64) -> Result<(), OutOfMemory>
+        requires least { 1 ≤ n }
+        requires most { n ≤ 10 ^ 6 }
+        requires new { position (is_of user.now) (settings_of self.old) ≡ None }
+        requires few { length (settings_of self.old) < settings_limit }
+        ensures ok { OnOk result (settings_of self.new ≡ settings_of self.old ++ (record { user = user.now; number = n }) ∷ []) }
+        ensures err { OnErr result (settings_of self.new ≡ settings_of self.old) }
+    {
+        let name = Vec::from_slice(self.alloc, user)?;
+        self.settings.reserve(1)?;
+        let place = self.settings.len();
+        self.places.insert(self.alloc, user, place)?;
+        self.settings.push_reserved(UserPriority {
+            user: name,
+            number: n,
+        });
         Ok(())
     }
 
@@ -62,7 +98,7 @@ impl Priorities {
         ensures len { result ≡ length (settings_of self.now) }
         ensures few { result ≤ settings_limit }
     {
-        self.numbers.len()
+        self.settings.len()
     }
 
     /// User `i` of those whose priority is set, counted from 0 in the order in which they were first set.
@@ -70,20 +106,7 @@ impl Priorities {
         requires { i < length (settings_of self.now) }
         ensures { option_map (λ setting. setting.user) (slice_get (settings_of self.now) i) ≡ Some result.now }
     {
-        match self.numbers.get_index(i) {
-            Some((user, _)) => user,
-            None => &[],
-        }
-    }
-
-    // The user is new, and as many are set as may be.
-    fn is_full_for(&self, user: &[u8]) -> bool
-        ensures { result ≡ lacks_place user.now (settings_of self.now) }
-    {
-        if self.numbers.contains_key(user) {
-            return false;
-        }
-        self.numbers.len() >= SETTINGS_LIMIT
+        self.settings[i].user.as_slice()
     }
 
     /// The priority of a user, 1,000 where none is set.
@@ -92,21 +115,9 @@ impl Priorities {
         ensures least { 1 ≤ result }
         ensures most { result ≤ 10 ^ 6 }
     {
-        self.numbers.get(user).copied().unwrap_or(DEFAULT_PRIORITY)
+        match self.places.get(user) {
+            Some(place) => self.settings[place].number,
+            None => DEFAULT_PRIORITY,
+        }
     }
-}
-
-// Puts the priority of a user, in the place of one that is there, or last.
-fn enter(
-    alloc: Global,
-    numbers: &mut IndexMap<Vec<u8>, u64>,
-    user: &[u8],
-    n: u64,
-) -> Result<(), OutOfMemory>
-    ensures ok { OnOk result (map setting_of numbers.new.entries ≡ with_setting (record { user = user.now; number = n }) (map setting_of numbers.old.entries)) }
-    ensures err { OnErr result (numbers.new.entries ≡ numbers.old.entries) }
-{
-    let key = Vec::from_slice(alloc, user)?;
-    numbers.insert(key, n)?;
-    Ok(())
 }

@@ -1,18 +1,19 @@
 // The table of jobs.
-ghost use Rattle.std.specs.Prelude.{◌≡◌, ◌≢◌, ◌==◌, ◌<◌, ◌≤◌, ◌+◌, ◌++◌, ◌∷◌, ℕ, [], All, AllPairs, false, bytes_eq, length, map, max, option_map, remove, slice_get, vec_capacity, vec_len, Err, IfNone, IfSome, IfErr, IfOk, None, Ok, OnErr, OnOk, Some};
+ghost use Rattle.std.specs.Prelude.{◌≡◌, ◌≢◌, ◌==◌, ◌<◌, ◌≤◌, ◌+◌, ◌++◌, ◌∷◌, ℕ, [], All, AllPairs, false, bytes_eq, length, map, max, option_map, remove};
+ghost use Rattle.std.specs.Prelude.{slice_get, vec_capacity, vec_len, Err, IfNone, IfSome, IfErr, IfOk, None, Ok, OnErr, OnOk, Some};
 ghost use Rattle.std.specs.List.{list_any, position_or_len};
 ghost use Rattle.claim_table.specs.declared.job.Stage.{Stage};
 ghost use Rattle.claim_table.specs.Answers.{IsCause, freed_at, freed_by, freed_of, no_job, release_answer, without_at};
-ghost use Rattle.claim_table.specs.Kept.{IsKept};
+ghost use Rattle.claim_table.specs.JobList.{jobs_in, slots_in};
+ghost use Rattle.claim_table.specs.Kept.{AreThere, IsKept, numbers};
 
-use crate::notes::{close_gap, note, put, widen};
+use crate::job_list::JobList;
+use crate::notes::{note, put, widen};
 use crate::{Freed, FreedList, Job, JobFault, JobState, NoJob, Stage, SubmitFault};
 use ad_tree::Request;
-use indexmap::IndexSet;
 use pool_text::{OutOfMemory, Slots, Text};
 use std::alloc::Global;
 use std::convert::AsSlice;
-use std::mem::replace;
 
 const JOBS_LIMIT: usize = 10_000;
 
@@ -21,22 +22,24 @@ const TEXT_LIMIT: u64 = 33_554_432;
 /// The jobs in the order of their submission, each under a name of its own, and who is offered and has claimed what. A
 /// resource, named by its slot, is in at most one offer and in at most one claim.
 ///
-/// A job is found by its name's hash, and by a slot at once; no look-up takes memory.
+/// A job is found by comparing its name with a few others, and by a slot at once; no look-up takes memory. A job that leaves
+/// makes a gap in the order, so that none behind it is moved: numbers are found in a step once `settle_order` has closed the gaps.
 #[derive(Drop)]
 pub struct ClaimTable {
     pub(crate) alloc: Global,
-    names: IndexSet<Vec<u8>>,
-    pub(crate) jobs: Vec<Job>,
+    pub(crate) jobs: JobList,
     pub(crate) offers: Vec<Option<usize>>,
     pub(crate) claims: Vec<Option<usize>>,
     text: u64,
-    ghost kept: { IsKept names.keys jobs.items offers.items claims.items text },
+    ghost kept: { IsKept (jobs_in jobs) (numbers (slots_in jobs) offers.items) (numbers (slots_in jobs) claims.items) text },
+    ghost there: { AreThere (slots_in jobs) offers.items claims.items },
 }
 
 impl ClaimTable {
     ghost use Rattle.std.specs.Option.{option_map_or};
     ghost use Rattle.claim_table.specs.Table.{jobs_of};
-    ghost use Rattle.claim_table.specs.Jobs.{AreExclusive, AreFree, AreNamedApart, IsFilled, claim_of, claimed_by, idle_at, job_named, jobs_limit, lost, numbered, offer_of, offered_to, refusal, slots_of, state_of, text_limit, text_of, wanted, with_standing};
+    ghost use Rattle.claim_table.specs.Jobs.{AreExclusive, AreFree, AreNamedApart, IsFilled, claim_of, claimed_by, idle_at, job_named, jobs_limit, lost};
+    ghost use Rattle.claim_table.specs.Jobs.{numbered, offer_of, offered_to, refusal, slots_of, state_of, text_limit, text_of, wanted, with_standing};
 
     /// A table without jobs, which takes no memory yet.
     pub fn new(alloc: Global) -> ClaimTable
@@ -44,8 +47,7 @@ impl ClaimTable {
     {
         ClaimTable {
             alloc,
-            names: IndexSet::new(alloc),
-            jobs: Vec::new(alloc),
+            jobs: JobList::new(alloc),
             offers: Vec::new(alloc),
             claims: Vec::new(alloc),
             text: 0,
@@ -80,7 +82,8 @@ impl ClaimTable {
         request: Request,
         text_len: u64,
     ) -> Result<(), SubmitFault>
-        ensures ok { OnOk result (jobs_of self.new ≡ jobs_of self.old ++ (record { name = name.now; user = user.now; text_len = text_len; request = request; standing = Stage.Idle }) ∷ []) }
+        ensures ok { OnOk result (jobs_of self.new ≡ jobs_of self.old ++ (record
+            { name = name.now; user = user.now; text_len = text_len; request = request; standing = Stage.Idle }) ∷ []) }
         ensures none { OnOk result (refusal name.now text_len (jobs_of self.old) ≡ None) }
         ensures cause { IfErr result (λ fault. IsCause fault (refusal name.now text_len (jobs_of self.old))) }
         ensures err { OnErr result (jobs_of self.new ≡ jobs_of self.old) }
@@ -88,16 +91,19 @@ impl ClaimTable {
         if let Some(fault) = self.refusal(name, text_len) {
             return Err(fault);
         }
-        let Ok(titles) = enter(self.alloc, &mut self.names, &mut self.jobs, name, user) else {
+        let Ok(titles) = titles_of(self.alloc, name, user) else {
             return Err(SubmitFault::OutOfMemory);
         };
-        self.jobs.push_reserved(Job {
+        let job = Job {
             name: titles.job,
             user: titles.user,
             text_len,
             request,
             standing: Stage::Idle,
-        });
+        };
+        if self.jobs.push(self.alloc, job).is_err() {
+            return Err(SubmitFault::OutOfMemory);
+        }
         self.text += text_len;
         Ok(())
     }
@@ -106,11 +112,11 @@ impl ClaimTable {
     fn refusal(&self, name: &[u8], text_len: u64) -> Option<SubmitFault>
         ensures cause { IfSome result (λ fault. IsCause fault (refusal name.now text_len (jobs_of self.now))) }
         ensures none { IfNone result (refusal name.now text_len (jobs_of self.now) ≡ None) }
-        ensures new { IfNone result (list_any (λ key. bytes_eq name.now key.items) self.now.names.keys ≡ false) }
+        ensures new { IfNone result (numbered name.now (jobs_of self.now) ≡ None) }
         ensures few { IfNone result (length (jobs_of self.now) < jobs_limit) }
         ensures light { IfNone result (self.now.text + text_len ≤ text_limit) }
     {
-        if self.names.get_index_of(name).is_some() {
+        if self.jobs.number(name).is_some() {
             return Some(SubmitFault::InUse);
         }
         if self.jobs.len() >= JOBS_LIMIT {
@@ -122,20 +128,20 @@ impl ClaimTable {
         None
     }
 
-    // The number of the job of a name.
-    pub(crate) fn find(&self, name: &[u8]) -> Option<usize>
+    /// The number of the job of a name, `None` exactly where there is none.
+    pub fn number(&self, name: &[u8]) -> Option<usize>
         ensures number { result ≡ numbered name.now (jobs_of self.now) }
         ensures within { IfSome result (λ i. i < length (jobs_of self.now)) }
     {
-        self.names.get_index_of(name)
+        self.jobs.number(name)
     }
 
     /// The state of the job of a name, `None` exactly where there is none.
     pub fn state(&self, name: &[u8]) -> Option<JobState>
         ensures { result ≡ option_map (λ job. state_of job.standing) (job_named name.now (jobs_of self.now)) }
     {
-        match self.find(name) {
-            Some(i) => Some(self.jobs[i].standing.state()),
+        match self.number(name) {
+            Some(i) => Some(self.jobs.at(i).standing.state()),
             None => None,
         }
     }
@@ -144,8 +150,8 @@ impl ClaimTable {
     pub fn slots(&self, name: &[u8]) -> &[usize]
         ensures { result.now ≡ option_map_or (λ job. slots_of job.standing) (job_named name.now (jobs_of self.now)) [] }
     {
-        match self.find(name) {
-            Some(i) => self.jobs[i].standing.slots(),
+        match self.number(name) {
+            Some(i) => self.jobs.at(i).standing.slots(),
             None => &[],
         }
     }
@@ -155,7 +161,7 @@ impl ClaimTable {
         ensures number { result ≡ offered_to slot (jobs_of self.now) }
         ensures within { IfSome result (λ i. i < length (jobs_of self.now)) }
     {
-        note(&self.offers, slot)
+        self.jobs.number_in(note(&self.offers, slot))
     }
 
     /// The number of the job that has claimed a slot.
@@ -163,7 +169,14 @@ impl ClaimTable {
         ensures number { result ≡ claimed_by slot (jobs_of self.now) }
         ensures within { IfSome result (λ i. i < length (jobs_of self.now)) }
     {
-        note(&self.claims, slot)
+        self.jobs.number_in(note(&self.claims, slot))
+    }
+
+    /// Closes the gaps that jobs left in the order, so that a number is found in a step until a job leaves.
+    pub fn settle_order(&mut self)
+        ensures { jobs_of self.new ≡ jobs_of self.old }
+    {
+        self.jobs.settle();
     }
 
     /// Law: no two jobs are offered one slot, no two have claimed one, and no job lists one twice.
@@ -177,8 +190,7 @@ impl ClaimTable {
     pub fn names_are_apart(&self)
         ensures { AreNamedApart (jobs_of self.now) }
     {
-        // The set's length comes with the fact that its keys differ.
-        let _len = self.names.len();
+        self.jobs.names_are_apart();
     }
 
     /// Offers slots to job `i`, which is idle; they are as many as it wants, no two of them are one, and none is offered.
@@ -192,8 +204,9 @@ impl ClaimTable {
         ensures err { OnErr result (jobs_of self.new ≡ jobs_of self.old) }
     {
         widen(&mut self.offers, &mut self.claims, slots.as_slice())?;
-        put(&mut self.offers, slots.as_slice(), Some(i));
-        let _idle = replace(&mut self.jobs[i].standing, Stage::Matched(slots));
+        let job = self.jobs.slot(i);
+        put(&mut self.offers, slots.as_slice(), Some(job));
+        let _idle = self.jobs.restand(i, Stage::Matched(slots));
         Ok(())
     }
 
@@ -203,7 +216,7 @@ impl ClaimTable {
         ensures slots { option_map (λ job. slots_of job.standing) (slice_get (jobs_of self.old) i) ≡ Some result }
         ensures jobs { jobs_of self.new ≡ with_standing (jobs_of self.old) i Stage.Idle }
     {
-        let was = replace(&mut self.jobs[i].standing, Stage::Idle);
+        let was = self.jobs.restand(i, Stage::Idle);
         put(&mut self.offers, was.offer(), None);
         put(&mut self.claims, was.claim(), None);
         was.into_slots(self.alloc)
@@ -214,10 +227,7 @@ impl ClaimTable {
         requires { option_map (λ job. job.standing) (slice_get (jobs_of self.old) i) ≡ Some Stage.Idle }
         ensures { jobs_of self.new ≡ remove (jobs_of self.old) i }
     {
-        self.names.shift_remove_index(i);
         let job = self.jobs.remove(i);
-        close_gap(&mut self.offers, i);
-        close_gap(&mut self.claims, i);
         self.text -= job.text_len;
     }
 
@@ -228,10 +238,10 @@ impl ClaimTable {
         ensures ok { OnOk result (jobs_of self.new ≡ idle_at (numbered name.now (jobs_of self.old)) (jobs_of self.old)) }
         ensures err { OnErr result (jobs_of self.new ≡ jobs_of self.old) }
     {
-        let Some(i) = self.find(name) else {
+        let Some(i) = self.number(name) else {
             return Err(JobFault::NoJob);
         };
-        if self.jobs[i].standing.state() == JobState::Idle {
+        if self.jobs.at(i).standing.state() == JobState::Idle {
             return Err(JobFault::WrongState(JobState::Idle));
         }
         Ok(self.free(i))
@@ -242,7 +252,7 @@ impl ClaimTable {
         ensures answer { result ≡ option_map_or (λ job. Ok (slots_of job.standing)) (job_named name.now (jobs_of self.old)) (Err no_job) }
         ensures jobs { jobs_of self.new ≡ without_at (numbered name.now (jobs_of self.old)) (jobs_of self.old) }
     {
-        let Some(i) = self.find(name) else {
+        let Some(i) = self.number(name) else {
             return Err(NoJob);
         };
         let slots = self.free(i);
@@ -279,7 +289,7 @@ impl ClaimTable {
         let Some(i) = number else {
             return Ok(());
         };
-        freed.push(freed_of(self.alloc, &self.jobs[i])?)
+        freed.push(freed_of(self.alloc, self.jobs.at(i))?)
     }
 
     // Makes the job of a number idle, where there is one.
@@ -298,7 +308,7 @@ impl ClaimTable {
         requires { i < length (jobs_of self.now) }
         ensures { option_map (λ job. job.name) (slice_get (jobs_of self.now) i) ≡ Some result.now }
     {
-        &self.jobs[i].name
+        &self.jobs.at(i).name
     }
 
     /// The user of job `i`.
@@ -306,7 +316,7 @@ impl ClaimTable {
         requires { i < length (jobs_of self.now) }
         ensures { option_map (λ job. job.user) (slice_get (jobs_of self.now) i) ≡ Some result.now }
     {
-        &self.jobs[i].user
+        &self.jobs.at(i).user
     }
 
     /// How job `i` stands.
@@ -314,7 +324,7 @@ impl ClaimTable {
         requires { i < length (jobs_of self.now) }
         ensures { option_map (λ job. job.standing) (slice_get (jobs_of self.now) i) ≡ Some result.now }
     {
-        &self.jobs[i].standing
+        &self.jobs.at(i).standing
     }
 
     /// The request of job `i`.
@@ -322,7 +332,7 @@ impl ClaimTable {
         requires { i < length (jobs_of self.now) }
         ensures { option_map (λ job. job.request) (slice_get (jobs_of self.now) i) ≡ Some result.now }
     {
-        &self.jobs[i].request
+        &self.jobs.at(i).request
     }
 }
 
@@ -357,28 +367,6 @@ struct Titles {
     user: Text,
 }
 
-// Puts a name last, with room for its job. Memory is taken first.
-fn enter(
-    alloc: Global,
-    names: &mut IndexSet<Vec<u8>>,
-    jobs: &mut Vec<Job>,
-    name: &[u8],
-    user: &[u8],
-) -> Result<Titles, OutOfMemory>
-    requires { list_any (λ key. bytes_eq name.now key.items) names.old.keys ≡ false }
-    ensures job { IfOk result (λ titles. titles.job ≡ name.now) }
-    ensures user { IfOk result (λ titles. titles.user ≡ user.now) }
-    ensures names { OnOk result (map (λ key. key.items) names.new.keys ≡ map (λ key. key.items) names.old.keys ++ name.now ∷ []) }
-    ensures room { OnOk result (vec_len jobs.new < vec_capacity jobs.new) }
-    ensures jobs { jobs.new.items ≡ jobs.old.items }
-    ensures err { OnErr result (names.new.keys ≡ names.old.keys) }
-{
-    let titles = titles_of(alloc, name, user)?;
-    jobs.reserve(1)?;
-    add_name(alloc, names, name)?;
-    Ok(titles)
-}
-
 // A name and a user's, in memory of their own.
 fn titles_of(alloc: Global, name: &[u8], user: &[u8]) -> Result<Titles, OutOfMemory>
     ensures job { IfOk result (λ titles. titles.job ≡ name.now) }
@@ -387,15 +375,4 @@ fn titles_of(alloc: Global, name: &[u8], user: &[u8]) -> Result<Titles, OutOfMem
     let job = Text::from_bytes(alloc, name)?;
     let user = Text::from_bytes(alloc, user)?;
     Ok(Titles { job, user })
-}
-
-// Puts a new name last.
-fn add_name(alloc: Global, names: &mut IndexSet<Vec<u8>>, name: &[u8]) -> Result<(), OutOfMemory>
-    requires { list_any (λ key. bytes_eq name.now key.items) names.old.keys ≡ false }
-    ensures ok { OnOk result (map (λ key. key.items) names.new.keys ≡ map (λ key. key.items) names.old.keys ++ name.now ∷ []) }
-    ensures err { OnErr result (names.new.keys ≡ names.old.keys) }
-{
-    let key = Vec::from_slice(alloc, name)?;
-    names.insert(key)?;
-    Ok(())
 }

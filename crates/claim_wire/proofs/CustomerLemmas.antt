@@ -1,5 +1,6 @@
 -- A customer's moves keep the facts.
-use Rattle.std.proofs.Common.{◌≡◌, ◌≢◌, ◌⊎◌, ℕ, ◌+◌, ◌<◌, ◌≤◌, Bool, true, false, cond, eqb, List, ◌++◌, length, Option, None, Some, refl, sym, ◌∙◌, ap, subst, inl, inr, arith, length-append}
+use Rattle.std.proofs.Common.{◌≡◌, ◌≢◌, ◌⊎◌, ℕ, ◌+◌, ◌<◌, ◌≤◌, Bool, true, false, cond, eqb, List, ◌++◌, length, Option}
+use Rattle.std.proofs.Common.{None, Some, refl, sym, ◌∙◌, ap, subst, inl, inr, arith, length-append}
 use Rattle.std.proofs.lemmas.Bool.{and_parts, eqb-true}
 use Rattle.std.specs.List.{Contains}
 use Rattle.std.proofs.lemmas.List.Elements.{Contains-append_left, Contains-append_cases}
@@ -18,13 +19,16 @@ pub record Keeps (sent : List Message) (s t : CustomerState) (out : Option Messa
   pub same : t.id ≡ s.id
   pub past : (k : ℕ) → IsPast k s → IsPast k t
   pub targeted : IsTargeted s.target s.phase s.number → IsTargeted t.target t.phase t.number
-  pub holding : t.phase ≡ phases.Holding → ((s.phase ≡ phases.Holding) × (t.target ≡ s.target) × (t.number ≡ s.number)) ⊎ ((r : ℕ) × (t.target ≡ Some r) × Contains sent (grant_message s.id r t.number))
+  pub holding : t.phase ≡ phases.Holding
+      → ((s.phase ≡ phases.Holding) × (t.target ≡ s.target) × (t.number ≡ s.number)) ⊎
+      ((r : ℕ) × (t.target ≡ Some r) × Contains sent (grant_message s.id r t.number))
   pub no_grant : (m : Message) → out ≡ Some m → m.kind ≢ kinds.Grant
   pub left : (m : Message) → out ≡ Some m → m.kind ≡ kinds.Leave → (m.customer ≡ s.id) × IsPast m.number t
   pub numbered : t.number ≤ s.number + length (listed out)
   pub sender : (m : Message) → out ≡ Some m → m.customer ≡ s.id
 
-module _ (w : WireState) (facts : Facts w) (c : ℕ) (s t : CustomerState) (out : Option Message) (here : at w.customers c ≡ Some s) (keeps : Keeps w.sent s t out) where
+module _ (w : WireState) (facts : Facts w) (c : ℕ) (s t : CustomerState) (out : Option Message) (here : at w.customers c ≡ Some s)
+    (keeps : Keeps w.sent s t out) where
   abbrev after : WireState
   after = record { customers = put c t w.customers; resources = w.resources; sent = w.sent ++ listed out }
 
@@ -66,7 +70,8 @@ module _ (w : WireState) (facts : Facts w) (c : ℕ) (s t : CustomerState) (out 
           | inl one ↦
               let mine : t.phase ≡ phases.Holding = ap (λ (v : CustomerState). v.phase) (sym one.1) ∙ phase in
               let found : (r : ℕ) × (t.target ≡ Some r) × Contains after.sent (grant_message c r t.number) = held mine in
-              subst (λ (v : CustomerState). (r : ℕ) × (v.target ≡ Some r) × Contains after.sent (grant_message d r v.number)) (sym one.1) (subst (λ (e : ℕ). (r : ℕ) × (t.target ≡ Some r) × Contains after.sent (grant_message e r t.number)) (sym one.0) found)
+              subst (λ (v : CustomerState). (r : ℕ) × (v.target ≡ Some r) × Contains after.sent (grant_message d r v.number)) (sym one.1)
+              (subst (λ (e : ℕ). (r : ℕ) × (t.target ≡ Some r) × Contains after.sent (grant_message e r t.number)) (sym one.0) found)
           | inr other ↦
               let found = facts.holding d u other.1 phase in
               (found.0, found.1, Contains-append_left w.sent (listed out) _ found.2)
@@ -103,21 +108,45 @@ module _ (w : WireState) (facts : Facts w) (c : ℕ) (s t : CustomerState) (out 
       held mine =
           elim (keeps.holding mine) [
             | inl old ↦
-                let found = facts.holding c s here old.0 in
-                (found.0, old.1 ∙ found.1, Contains-append_left w.sent (listed out) _ (subst (λ (k : ℕ). Contains w.sent (grant_message c found.0 k)) (sym old.2) found.2))
-            | inr new ↦ (new.0, new.1, Contains-append_left w.sent (listed out) _ (subst (λ (e : ℕ). Contains w.sent (grant_message e new.0 t.number)) known new.2))
+                let found = facts.holding c s here old.0 in (
+                  found.0,
+                  old.1 ∙ found.1,
+                  Contains-append_left w.sent (listed out) _ (subst (λ (k : ℕ). Contains w.sent (grant_message c found.0 k))
+                      (sym old.2) found.2),
+                )
+            | inr new ↦ (
+              new.0,
+              new.1,
+              Contains-append_left w.sent (listed out) _ (subst (λ (e : ℕ). Contains w.sent (grant_message e new.0 t.number))
+                  known new.2),
+            )
           ]
 
 -- ---- the moves
 
 -- nothing changes, and nothing is sent that matters
-pub stays : (sent : List Message) (s : CustomerState) (out : Option Message) → ((m : Message) → out ≡ Some m → m.kind ≢ kinds.Grant) → ((m : Message) → out ≡ Some m → m.kind ≡ kinds.Leave → (m.customer ≡ s.id) × IsPast m.number s) → ((m : Message) → out ≡ Some m → m.customer ≡ s.id) → Keeps sent s s out
-stays sent s out no_grant left sender = record { same = refl; past = λ k p. p; targeted = λ is. is; holding = λ is. inl (is, refl, refl); no_grant = no_grant; left = left; numbered = omega arith; sender = sender }
+pub stays : (sent : List Message) (s : CustomerState) (out : Option Message) → ((m : Message) → out ≡ Some m → m.kind ≢ kinds.Grant)
+    → ((m : Message) → out ≡ Some m → m.kind ≡ kinds.Leave → (m.customer ≡ s.id) × IsPast m.number s)
+    → ((m : Message) → out ≡ Some m → m.customer ≡ s.id) → Keeps sent s s out
+stays sent s out no_grant left sender =
+    record {
+      same =
+          refl;
+      past =
+          λ k p. p;
+      targeted = λ is. is;
+      holding = λ is. inl (is, refl, refl);
+      no_grant = no_grant;
+      left = left;
+      numbered = omega arith;
+      sender = sender;
+    }
 
 pub quiet : (sent : List Message) (s : CustomerState) → Keeps sent s s None
 quiet sent s = stays sent s None (λ m is. absurd (cc)) (λ m is. absurd (cc)) (λ m is. absurd (cc))
 
-pub ask-keeps : (sent : List Message) (r : ℕ) (s : CustomerState) (phase : Phase) → s.phase ≡ phase → Keeps sent s (ask_by phase r s).0 (ask_by phase r s).1
+pub ask-keeps : (sent : List Message) (r : ℕ) (s : CustomerState) (phase : Phase) → s.phase ≡ phase
+    → Keeps sent s (ask_by phase r s).0 (ask_by phase r s).1
 ask-keeps sent r s phases.Idle is = record {
   same = refl;
   past = λ k p. elim p [ inl less ↦ inl (omega arith) | inr same ↦ inl (omega (arith, same.0)) ];
@@ -145,7 +174,8 @@ kind-is kind s m sends = ap (λ (n : Message). n.kind) (sym (some-is (message_of
 sender-is : (kind : MessageKind) (s : CustomerState) (m : Message) → Some (message_of kind s) ≡ Some m → m.customer ≡ s.id
 sender-is kind s m sends = ap (λ (n : Message). n.customer) (sym (some-is (message_of kind s) m sends))
 
-left-is : (kind : MessageKind) (s t : CustomerState) (m : Message) → Some (message_of kind s) ≡ Some m → t.number ≡ s.number → IsAway t.phase → (m.customer ≡ s.id) × IsPast m.number t
+left-is : (kind : MessageKind) (s t : CustomerState) (m : Message) → Some (message_of kind s) ≡ Some m → t.number ≡ s.number → IsAway t.phase
+    → (m.customer ≡ s.id) × IsPast m.number t
 left-is kind s t m sends number away =
     let same : message_of kind s ≡ m = some-is (message_of kind s) m sends in
     (ap (λ (n : Message). n.customer) (sym same), inr (ap (λ (n : Message). n.number) (sym same) ∙ sym number, away))
@@ -153,10 +183,12 @@ left-is kind s t m sends number away =
 pub again-keeps : (sent : List Message) (s : CustomerState) (phase : Phase) → s.phase ≡ phase → Keeps sent s s (again_by phase s)
 again-keeps sent s phases.Idle is = quiet sent s
 again-keeps sent s phases.Asked is =
-    stays sent s _ (λ m sends grants. let kind : m.kind ≡ kinds.Ask = kind-is kinds.Ask s m sends in absurd (cc)) (λ m sends leaves. let kind : m.kind ≡ kinds.Ask = kind-is kinds.Ask s m sends in absurd (cc)) (sender-is kinds.Ask s)
+    stays sent s _ (λ m sends grants. let kind : m.kind ≡ kinds.Ask = kind-is kinds.Ask s m sends in absurd (cc))
+    (λ m sends leaves. let kind : m.kind ≡ kinds.Ask = kind-is kinds.Ask s m sends in absurd (cc)) (sender-is kinds.Ask s)
 again-keeps sent s phases.Holding is = quiet sent s
 again-keeps sent s phases.Leaving is =
-    stays sent s _ (λ m sends grants. let kind : m.kind ≡ kinds.Leave = kind-is kinds.Leave s m sends in absurd (cc)) (λ m sends leaves. left-is kinds.Leave s s m sends refl (subst IsAway (sym is) tt)) (sender-is kinds.Leave s)
+    stays sent s _ (λ m sends grants. let kind : m.kind ≡ kinds.Leave = kind-is kinds.Leave s m sends in absurd (cc))
+    (λ m sends leaves. left-is kinds.Leave s s m sends refl (subst IsAway (sym is) tt)) (sender-is kinds.Leave s)
 
 -- where the phase alone changes, to one in which the claim is no longer asked for or held
 targeted-in : (target : Option ℕ) (phase other : Phase) (n : ℕ) → phase ≢ phases.Idle → IsTargeted target phase n → IsTargeted target other n
@@ -182,7 +214,8 @@ leave-keeps sent s phases.Holding is = leaves-to sent s (λ idle. absurd (cc))
 leave-keeps sent s phases.Leaving is = quiet sent s
 
 -- a restart
-pub restart-keeps : (sent : List Message) (s : CustomerState) (target : Option ℕ) → s.target ≡ target → Keeps sent s (in_phase (phase_again target) s) None
+pub restart-keeps : (sent : List Message) (s : CustomerState) (target : Option ℕ) → s.target ≡ target
+    → Keeps sent s (in_phase (phase_again target) s) None
 restart-keeps sent s None is = record {
   same = refl;
   past = λ k p. elim p [ inl less ↦ inl less | inr same ↦ inr (same.0, tt) ];
@@ -211,7 +244,8 @@ target-is None r is = absurd (cc)
 target-is (Some t) r is = ap Some (eqb-true t r is)
 
 -- the phase alone changes to Holding, by a grant that was sent
-grants-to : (sent : List Message) (s : CustomerState) (m : Message) → s.phase ≡ phases.Asked → m.kind ≡ kinds.Grant → m.customer ≡ s.id → Contains sent m → s.target ≡ Some m.resource → s.number ≡ m.number → Keeps sent s (in_phase phases.Holding s) None
+grants-to : (sent : List Message) (s : CustomerState) (m : Message) → s.phase ≡ phases.Asked → m.kind ≡ kinds.Grant → m.customer ≡ s.id
+    → Contains sent m → s.target ≡ Some m.resource → s.number ≡ m.number → Keeps sent s (in_phase phases.Holding s) None
 grants-to sent s m asked kind to has target number = record {
   same = refl;
   past = λ k p. elim p [ inl less ↦ inl less | inr same ↦ absurd (subst IsAway asked same.1) ];
@@ -228,7 +262,8 @@ grants-to sent s m asked kind to has target number = record {
         ap (λ (k : MessageKind). record { kind = k; customer = m.customer; resource = m.resource; number = m.number }) kind
         ∙ ap (λ (c : ℕ). grant_message c m.resource m.number) to ∙ ap (λ (k : ℕ). grant_message s.id m.resource k) (sym number)
 
-gone-to : (sent : List Message) (s : CustomerState) → s.phase ≡ phases.Leaving → Keeps sent s (record { id = s.id; number = s.number; target = None; phase = phases.Idle }) None
+gone-to : (sent : List Message) (s : CustomerState) → s.phase ≡ phases.Leaving
+    → Keeps sent s (record { id = s.id; number = s.number; target = None; phase = phases.Idle }) None
 gone-to sent s leaving = record {
   same = refl;
   past = λ k p. elim p [ inl less ↦ inl less | inr same ↦ inr (same.0, tt) ];
@@ -240,7 +275,8 @@ gone-to sent s leaving = record {
   sender = λ n sends. absurd (cc);
 }
 
-take-by : (sent : List Message) (s : CustomerState) (m : Message) (phase : Phase) (kind : MessageKind) → s.phase ≡ phase → m.kind ≡ kind → m.customer ≡ s.id → Contains sent m → s.target ≡ Some m.resource → s.number ≡ m.number → Keeps sent s (take_by phase kind s) None
+take-by : (sent : List Message) (s : CustomerState) (m : Message) (phase : Phase) (kind : MessageKind) → s.phase ≡ phase → m.kind ≡ kind
+    → m.customer ≡ s.id → Contains sent m → s.target ≡ Some m.resource → s.number ≡ m.number → Keeps sent s (take_by phase kind s) None
 take-by sent s m phases.Asked kinds.Grant is kind to has target number = grants-to sent s m is kind to has target number
 take-by sent s m phases.Leaving kinds.Gone is kind to has target number = gone-to sent s is
 take-by sent s m phases.Asked kinds.Ask is kind to has target number = quiet sent s
@@ -252,7 +288,8 @@ take-by sent s m phases.Leaving kinds.Leave is kind to has target number = quiet
 take-by sent s m phases.Idle kind is k to has target number = quiet sent s
 take-by sent s m phases.Holding kind is k to has target number = quiet sent s
 
-take-if : (sent : List Message) (s : CustomerState) (m : Message) (mine : Bool) → is_for m s ≡ mine → m.customer ≡ s.id → Contains sent m → Keeps sent s (cond mine (take_by s.phase m.kind s) s) None
+take-if : (sent : List Message) (s : CustomerState) (m : Message) (mine : Bool) → is_for m s ≡ mine → m.customer ≡ s.id → Contains sent m
+    → Keeps sent s (cond mine (take_by s.phase m.kind s) s) None
 take-if sent s m true is to has =
     let both = and_parts (is_target s.target m.resource) (eqb s.number m.number) is in
     take-by sent s m s.phase m.kind refl refl to has (target-is s.target m.resource both.0) (eqb-true s.number m.number both.1)

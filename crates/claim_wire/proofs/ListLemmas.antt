@@ -1,5 +1,6 @@
 -- Lists whose items are numbered from 1.
-use Rattle.std.proofs.Common.{◌≡◌, ◌≢◌, ◌⊎◌, ℕ, zero, suc, ◌<◌, ◌≤◌, max, List, [], ◌∷◌, length, get_or, set, slice_get, Option, None, Some, refl, sym, ap, inl, inr, arith}
+use Rattle.std.proofs.Common.{◌≡◌, ◌≢◌, ◌⊎◌, ℕ, zero, suc, ◌<◌, ◌≤◌, max, List, [], ◌∷◌, length, get_or, set, slice_get}
+use Rattle.std.proofs.Common.{Option, None, Some, refl, sym, ap, inl, inr, arith}
 use Rattle.std.specs.List.{Contains}
 use Rattle.std.proofs.lemmas.Bool.{cases_lt}
 use Rattle.std.proofs.lemmas.List.{length-set}
@@ -11,7 +12,8 @@ use Rattle.claim_wire.specs.Resources.{freed_in, raised}
 use Rattle.claim_wire.specs.Wires.{at, put, listed, answers_of}
 
 -- what stands in a list after one item was put
-set-cases : {A : Type 0} (xs : List A) (i j : ℕ) (x y : A) → slice_get (set xs i x) j ≡ Some y → ((j ≡ i) × (y ≡ x)) ⊎ ((j ≢ i) × (slice_get xs j ≡ Some y))
+set-cases : {A : Type 0} (xs : List A) (i j : ℕ) (x y : A) → slice_get (set xs i x) j ≡ Some y
+    → ((j ≡ i) × (y ≡ x)) ⊎ ((j ≢ i) × (slice_get xs j ≡ Some y))
 set-cases [] i j x y is = absurd (cc)
 set-cases (z ∷ zs) zero zero x y is = let same : x ≡ y = cc in inl (refl, sym same)
 set-cases (z ∷ zs) zero (suc j) x y is = inr (λ e. absurd (omega arith), is)
@@ -22,7 +24,8 @@ set-cases (z ∷ zs) (suc i) (suc j) x y is =
       | inr other ↦ inr (λ e. other.0 (omega arith), other.1)
     ]
 
-pub put-cases : {A : Type 0} (xs : List A) (c d : ℕ) (x y : A) → 0 < c → at (put c x xs) d ≡ Some y → ((d ≡ c) × (y ≡ x)) ⊎ ((d ≢ c) × (at xs d ≡ Some y))
+pub put-cases : {A : Type 0} (xs : List A) (c d : ℕ) (x y : A) → 0 < c → at (put c x xs) d ≡ Some y
+    → ((d ≡ c) × (y ≡ x)) ⊎ ((d ≢ c) × (at xs d ≡ Some y))
 put-cases xs zero d x y some is = absurd (omega arith)
 put-cases xs (suc i) zero x y some is = absurd (cc)
 put-cases xs (suc i) (suc j) x y some is =
@@ -66,7 +69,9 @@ answers-cases a m has =
     ]
 
 -- what is freed after a number was
-raised-at : (freed : List ℕ) (i j k : ℕ) → (get_or (set freed i (max (get_or freed i 0) k)) j 0 ≡ get_or freed j 0) ⊎ ((j ≡ i) × (get_or (set freed i (max (get_or freed i 0) k)) j 0 ≡ k) × (get_or freed j 0 ≤ k))
+raised-at : (freed : List ℕ) (i j k : ℕ)
+    → (get_or (set freed i (max (get_or freed i 0) k)) j 0 ≡ get_or freed j 0) ⊎
+    ((j ≡ i) × (get_or (set freed i (max (get_or freed i 0) k)) j 0 ≡ k) × (get_or freed j 0 ≤ k))
 raised-at [] i j k = inl refl
 raised-at (x ∷ xs) zero zero k = larger x k
   where
@@ -80,7 +85,8 @@ raised-at (x ∷ xs) (suc i) (suc j) k =
       | inr here ↦ inr (ap suc here.0, here.1, here.2)
     ]
 
-pub raised-cases : (freed : List ℕ) (c d k : ℕ) → (freed_in (raised freed c k) d ≡ freed_in freed d) ⊎ ((d ≡ c) × (freed_in (raised freed c k) d ≡ k) × (freed_in freed d ≤ k))
+pub raised-cases : (freed : List ℕ) (c d k : ℕ)
+    → (freed_in (raised freed c k) d ≡ freed_in freed d) ⊎ ((d ≡ c) × (freed_in (raised freed c k) d ≡ k) × (freed_in freed d ≤ k))
 raised-cases freed zero d k = inl refl
 raised-cases freed (suc i) zero k = inl refl
 raised-cases freed (suc i) (suc j) k =

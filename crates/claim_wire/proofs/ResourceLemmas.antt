@@ -1,5 +1,6 @@
 -- A resource's changes keep the facts.
-use Rattle.std.proofs.Common.{◌≡◌, ◌⊎◌, ℕ, ◌<◌, ◌≤◌, Bool, true, false, cond, eqb, leb, List, [], ◌∷◌, ◌++◌, length, drop, Option, None, Some, option_map, refl, sym, ◌∙◌, ap, subst, inl, inr, arith, length-append}
+use Rattle.std.proofs.Common.{◌≡◌, ◌⊎◌, ℕ, ◌<◌, ◌≤◌, Bool, true, false, cond, eqb, leb, List, [], ◌∷◌, ◌++◌, length, drop}
+use Rattle.std.proofs.Common.{Option, None, Some, option_map, refl, sym, ◌∙◌, ap, subst, inl, inr, arith, length-append}
 use Rattle.std.proofs.lemmas.Bool.{and_parts, eqb-true, leb-true}
 use Rattle.std.specs.List.{Contains}
 use Rattle.std.proofs.lemmas.List.Elements.{Contains-append_left, Contains-append_cases}
@@ -9,7 +10,8 @@ use Rattle.claim_wire.specs.declared.message.Message.{Message}
 use Rattle.claim_wire.specs.declared.message.MessageKind.{MessageKind}
 use Rattle.claim_wire.specs.declared.message.MessageKind.TheVariants as kinds
 use Rattle.claim_wire.specs.Facts.{Facts, IsHeldOrFreed, IsRequest, leave_message}
-use Rattle.claim_wire.specs.Resources.{ResourceState, Change, freed_in, freed_of, raised, claim_of, answer, grant, silent, one, is_claim, ask, ask_by, is_freed, holds_freed, first_of, next_holder, next_grant, freeing, leave, take, take_by, restart}
+use Rattle.claim_wire.specs.Resources.{ResourceState, Change, freed_in, freed_of, raised, claim_of, answer, grant, silent, one, is_claim, ask, ask_by, is_freed}
+use Rattle.claim_wire.specs.Resources.{holds_freed, first_of, next_holder, next_grant, freeing, leave, take, take_by, restart}
 use Rattle.claim_wire.specs.Wires.{WireState, at, put, answers_of}
 use Rattle.claim_wire.proofs.ListLemmas.{put-cases, at-some, answers-cases, raised-cases, raised-most, length-raised}
 
@@ -59,7 +61,8 @@ module _ (w : WireState) (facts : Facts w) (i : ℕ) (r t : ResourceState) (a : 
         elim (put-cases w.resources i j t u (at-some w.resources i r here) is) [
           | inl own ↦
               let found : Contains after.sent (leave_message c i (freed_of t c)) = left c (subst (λ (v : ResourceState). 0 < freed_of v c) own.1 some) in
-              subst (λ (v : ResourceState). Contains after.sent (leave_message c j (freed_of v c))) (sym own.1) (subst (λ (k : ℕ). Contains after.sent (leave_message c k (freed_of t c))) (sym own.0) found)
+              subst (λ (v : ResourceState). Contains after.sent (leave_message c j (freed_of v c))) (sym own.1)
+              (subst (λ (k : ℕ). Contains after.sent (leave_message c k (freed_of t c))) (sym own.0) found)
           | inr other ↦ Contains-append_left w.sent (answers_of a) _ (facts.freed j c u other.1 some)
         ];
     left = λ m has kind s is.
@@ -100,14 +103,21 @@ none-fair : (r t : ResourceState) (m : Message) → ((silent.first ≡ Some m) �
 none-fair r t m sends = elim sends [ inl e ↦ absurd (cc) | inr e ↦ absurd (cc) ]
 
 gone-fair : (r t : ResourceState) (m n : Message) → answer kinds.Gone m ≡ n → IsFair r t n
-gone-fair r t m n same = let kind : n.kind ≡ kinds.Gone = ap (λ (x : Message). x.kind) (sym same) in (λ request. subst IsRequest kind request, λ grants. absurd (cc))
+gone-fair r t m n same =
+    let kind : n.kind ≡ kinds.Gone = ap (λ (x : Message). x.kind) (sym same) in (λ request. subst IsRequest kind request, λ grants. absurd (cc))
 
 grant-fair : (r t : ResourceState) (h : Holder) (n : Message) → t.holder ≡ Some h → grant r.id h ≡ n → IsFair r t n
 grant-fair r t h n holds same =
-    let kind : n.kind ≡ kinds.Grant = ap (λ (x : Message). x.kind) (sym same) in
-    (λ request. subst IsRequest kind request, λ grants. (ap (λ (x : Message). x.resource) (sym same), inl (holds ∙ ap (λ (x : Message). Some (claim_of x)) same)))
+    let kind : n.kind ≡ kinds.Grant = ap (λ (x : Message). x.kind) (sym same) in (
+      λ request. subst IsRequest kind request,
+      λ grants. (
+        ap (λ (x : Message). x.resource) (sym same),
+        inl (holds ∙ ap (λ (x : Message). Some (claim_of x)) same),
+      ),
+    )
 
-one-fair : (r t : ResourceState) (m n : Message) → ((x : Message) → m ≡ x → IsFair r t x) → (((one m).first ≡ Some n) ⊎ ((one m).second ≡ Some n)) → IsFair r t n
+one-fair : (r t : ResourceState) (m n : Message) → ((x : Message) → m ≡ x → IsFair r t x)
+    → (((one m).first ≡ Some n) ⊎ ((one m).second ≡ Some n)) → IsFair r t n
 one-fair r t m n fair sends = elim sends [ inl e ↦ fair n (some-is m n e) | inr e ↦ absurd (cc) ]
 
 -- ---- asks
@@ -121,10 +131,12 @@ claim-is (Some g) h is =
     ap (λ (x : ℕ). Some (record { customer = x; number = g.number })) c ∙ ap (λ (x : ℕ). Some (record { customer = h.customer; number = x })) n
 
 -- the same resource
-same-keeps : (sent : List Message) (r : ResourceState) (a : Answers) → ((m : Message) → (a.first ≡ Some m) ⊎ (a.second ≡ Some m) → IsFair r r m) → Keeps sent r r a
+same-keeps : (sent : List Message) (r : ResourceState) (a : Answers) → ((m : Message) → (a.first ≡ Some m) ⊎ (a.second ≡ Some m) → IsFair r r m)
+    → Keeps sent r r a
 same-keeps sent r a fair = record { same = refl; granted = λ m is. is; freed = λ c. inl refl; sized = refl; fair = fair }
 
-asked-by : (sent : List Message) (r : ResourceState) (m : Message) (holder : Option Holder) → r.holder ≡ holder → Keeps sent r (ask_by holder m r).0 (ask_by holder m r).1
+asked-by : (sent : List Message) (r : ResourceState) (m : Message) (holder : Option Holder) → r.holder ≡ holder
+    → Keeps sent r (ask_by holder m r).0 (ask_by holder m r).1
 asked-by sent r m None is = record {
   same = refl;
   granted = λ n held. elim held [ inl holds ↦ absurd (cc) | inr freed ↦ inr freed ];
@@ -132,16 +144,23 @@ asked-by sent r m None is = record {
   sized = refl;
   fair = λ n sends. one-fair r (ask_by None m r).0 (grant r.id (claim_of m)) n (λ x same. grant-fair r (ask_by None m r).0 (claim_of m) x refl same) sends;
 }
-asked-by sent r m (Some h) is = record { same = refl; granted = λ n held. held; freed = λ c. inl refl; sized = refl; fair = λ n sends. none-fair r (ask_by (Some h) m r).0 n sends }
+asked-by sent r m (Some h) is =
+    record { same = refl; granted = λ n held. held; freed = λ c. inl refl; sized = refl; fair = λ n sends. none-fair r (ask_by (Some h) m r).0 n sends }
 
 claim-by : (sent : List Message) (r : ResourceState) (m : Message) (mine : Bool) → is_claim r.holder (claim_of m) ≡ mine
-    → Keeps sent r (cond mine (r, one (grant r.id (claim_of m))) (ask_by r.holder m r)).0 (cond mine (r, one (grant r.id (claim_of m))) (ask_by r.holder m r)).1
-claim-by sent r m true is = same-keeps sent r (one (grant r.id (claim_of m))) (λ n sends. one-fair r r (grant r.id (claim_of m)) n (λ x same. grant-fair r r (claim_of m) x (claim-is r.holder (claim_of m) is) same) sends)
+    → Keeps sent r (cond mine (r, one (grant r.id (claim_of m))) (ask_by r.holder m r)).0
+    (cond mine (r, one (grant r.id (claim_of m))) (ask_by r.holder m r)).1
+claim-by sent r m true is =
+    same-keeps sent r (one (grant r.id (claim_of m))) (λ n sends. one-fair r r (grant r.id (claim_of m)) n
+    (λ x same. grant-fair r r (claim_of m) x (claim-is r.holder (claim_of m) is) same) sends)
 claim-by sent r m false is = asked-by sent r m r.holder refl
 
 late-by : (sent : List Message) (r : ResourceState) (m : Message) (late : Bool) → leb m.number (freed_of r m.customer) ≡ late
-    → let rest : Change = cond (is_claim r.holder (claim_of m)) (r, one (grant r.id (claim_of m))) (ask_by r.holder m r) in Keeps sent r (cond late (r, one (answer kinds.Gone m)) rest).0 (cond late (r, one (answer kinds.Gone m)) rest).1
-late-by sent r m true is = same-keeps sent r (one (answer kinds.Gone m)) (λ n sends. one-fair r r (answer kinds.Gone m) n (λ x same. gone-fair r r m x same) sends)
+    → let rest : Change =
+    cond (is_claim r.holder (claim_of m)) (r, one (grant r.id (claim_of m))) (ask_by r.holder m r) in Keeps sent r
+    (cond late (r, one (answer kinds.Gone m)) rest).0 (cond late (r, one (answer kinds.Gone m)) rest).1
+late-by sent r m true is =
+    same-keeps sent r (one (answer kinds.Gone m)) (λ n sends. one-fair r r (answer kinds.Gone m) n (λ x same. gone-fair r r m x same) sends)
 late-by sent r m false is = claim-by sent r m (is_claim r.holder (claim_of m)) refl
 
 pub ask-keeps : (sent : List Message) (r : ResourceState) (m : Message) → Keeps sent r (ask m r).0 (ask m r).1
@@ -164,7 +183,8 @@ module _ (sent : List Message) (r : ResourceState) (m : Message) (kind : m.kind 
       message : (d : ℕ) → d ≡ m.customer → freed_in now_freed d ≡ m.number → m ≡ leave_message d r.id (freed_in now_freed d)
       message d one is =
           ap (λ (k : MessageKind). record { kind = k; customer = m.customer; resource = m.resource; number = m.number }) kind
-          ∙ ap (λ (x : ℕ). leave_message x m.resource m.number) (sym one) ∙ ap (λ (x : ℕ). leave_message d x m.number) to ∙ ap (λ (x : ℕ). leave_message d r.id x) (sym is)
+          ∙ ap (λ (x : ℕ). leave_message x m.resource m.number) (sym one) ∙ ap (λ (x : ℕ). leave_message d x m.number) to
+          ∙ ap (λ (x : ℕ). leave_message d r.id x) (sym is)
 
   -- where the holder's claim is freed, the granted claims that it held are freed
   held-freed : (h : Holder) (n : Message) → is_freed now_freed m.customer h ≡ true → h ≡ claim_of n → n.number ≤ freed_in now_freed n.customer
@@ -183,7 +203,8 @@ module _ (sent : List Message) (r : ResourceState) (m : Message) (kind : m.kind 
       let there : freed_of t n.customer ≡ freed_in now_freed n.customer = ap (λ (f : List ℕ). freed_in f n.customer) is in
       inr (omega arith)
 
-  granted-next : (t : ResourceState) (n : Message) (holder : Option Holder) → r.holder ≡ holder → holds_freed now_freed m.customer holder ≡ true → t.freed ≡ now_freed → IsHeldOrFreed r n → IsHeldOrFreed t n
+  granted-next : (t : ResourceState) (n : Message) (holder : Option Holder) → r.holder ≡ holder → holds_freed now_freed m.customer holder ≡ true
+      → t.freed ≡ now_freed → IsHeldOrFreed r n → IsHeldOrFreed t n
   granted-next t n None at_r is freed held = absurd (cc)
   granted-next t n (Some h) at_r is freed held =
       elim held [
@@ -201,7 +222,12 @@ module _ (sent : List Message) (r : ResourceState) (m : Message) (kind : m.kind 
   next-fair : (waiting : List Holder) → r.id ≡ r.id → (n : Message)
       → let t : ResourceState = record { id = r.id; holder = first_of waiting; freed = now_freed; waiting = drop 1 waiting } in
       ((Some (answer kinds.Gone m) ≡ Some n) ⊎ (option_map (grant r.id) (first_of waiting) ≡ Some n)) → IsFair r t n
-  next-fair [] e n sends = elim sends [ inl one_is ↦ gone-fair r (record { id = r.id; holder = None; freed = now_freed; waiting = [] }) m n (some-is (answer kinds.Gone m) n one_is) | inr two ↦ absurd (cc) ]
+  next-fair [] e n sends =
+      elim sends [
+        | inl one_is ↦ gone-fair r (record { id = r.id; holder = None; freed = now_freed; waiting = [] }) m n
+            (some-is (answer kinds.Gone m) n one_is)
+        | inr two ↦ absurd (cc)
+      ]
   next-fair (h ∷ hs) e n sends =
       let t : ResourceState = record { id = r.id; holder = Some h; freed = now_freed; waiting = hs } in
       elim sends [
@@ -231,7 +257,8 @@ module _ (sent : List Message) (r : ResourceState) (m : Message) (kind : m.kind 
   leave-keeps = leave-by (holds_freed now_freed m.customer r.holder) refl
 
 pub restart-keeps : (sent : List Message) (r : ResourceState) → Keeps sent r (restart r) silent
-restart-keeps sent r = record { same = refl; granted = λ m held. held; freed = λ c. inl refl; sized = refl; fair = λ m sends. none-fair r (restart r) m sends }
+restart-keeps sent r =
+    record { same = refl; granted = λ m held. held; freed = λ c. inl refl; sized = refl; fair = λ m sends. none-fair r (restart r) m sends }
 
 -- ---- a resource has a number for each of its customers
 
@@ -247,14 +274,16 @@ length-ask : (m : Message) (r : ResourceState) → length (ask m r).0.freed ≡ 
 length-ask m r =
     let granted : Change = (r, one (grant r.id (claim_of m))) in
     let asked : Change = ask_by r.holder m r in
-    either-freed (leb m.number (freed_of r m.customer)) (r, one (answer kinds.Gone m)) (cond (is_claim r.holder (claim_of m)) granted asked) (length r.freed) refl
+    either-freed (leb m.number (freed_of r m.customer)) (r, one (answer kinds.Gone m)) (cond (is_claim r.holder (claim_of m)) granted asked) (length r.freed)
+    refl
     (either-freed (is_claim r.holder (claim_of m)) granted asked (length r.freed) refl (length-asked r.holder m r))
 
 length-leave : (m : Message) (r : ResourceState) → length (leave m r).0.freed ≡ length r.freed
 length-leave m r =
     let left : ResourceState = freeing m r in
     let size = length-raised r.freed m.customer m.number in
-    either-freed (holds_freed left.freed m.customer left.holder) (next_holder left, record { first = Some (answer kinds.Gone m); second = next_grant left }) (left, one (answer kinds.Gone m)) (length r.freed) size size
+    either-freed (holds_freed left.freed m.customer left.holder) (next_holder left, record { first = Some (answer kinds.Gone m); second = next_grant left })
+    (left, one (answer kinds.Gone m)) (length r.freed) size size
 
 length-taken : (kind : MessageKind) (m : Message) (r : ResourceState) → length (take_by kind m r).0.freed ≡ length r.freed
 length-taken kinds.Ask m r = length-ask m r

@@ -1,5 +1,7 @@
 -- Who waits: places in the list, and room for all.
-use Rattle.std.proofs.Common.{◌≡◌, ℕ, zero, suc, ◌+◌, ◌<◌, ◌≤◌, max, Bool, true, false, cond, not, eqb, ltb, leb, ◌&&◌, List, [], ◌∷◌, ◌++◌, length, map, get_or, set, take, drop, replicate, None, Some, refl, sym, ◌∙◌, ap, subst, inl, inr, arith, add-one}
+use Rattle.std.proofs.Common.{◌≡◌, ℕ, zero, suc, ◌+◌, ◌<◌, ◌≤◌, max, Bool, true, false, cond, not, eqb, ltb, leb, ◌&&◌, List, []}
+use Rattle.std.proofs.Common.{◌∷◌, ◌++◌, length, map, get_or, set, take, drop, replicate, None, Some, refl, sym, ◌∙◌, ap, subst, inl, inr}
+use Rattle.std.proofs.Common.{arith, add-one}
 use Rattle.std.proofs.lemmas.Bool.{cases_Bool, and_parts, and_from, or_parts, or_cases, eqb-true, leb-true, ltb-true, le-leb, not-true, true≢false}
 use Rattle.std.proofs.lemmas.Bool.Decides.{nat_tests}
 use Rattle.std.proofs.lemmas.Map.Steps.{length-le_from_distinct_below}
@@ -63,12 +65,14 @@ position-none p ws is =
 
 -- ---- a claim that waits
 
-pub put-first : (h d : Holder) (ws : List Holder) (i : ℕ) → First (λ w. eqb h.customer w.customer) ws i → put_waiting h ws ≡ set ws i (record { customer = (get_or ws i d).customer; number = max (get_or ws i d).number h.number })
+pub put-first : (h d : Holder) (ws : List Holder) (i : ℕ) → First (λ w. eqb h.customer w.customer) ws i
+    → put_waiting h ws ≡ set ws i (record { customer = (get_or ws i d).customer; number = max (get_or ws i d).number h.number })
 put-first h d [] i is = absurd is
 put-first h d (w ∷ ws) zero is = rw is refl
 put-first h d (w ∷ ws) (suc i) is = rw is.0 (ap (λ (l : List Holder). w ∷ l) (put-first h d ws i is.1))
 
-pub put-at : (h : Holder) (ws : List Holder) (i : ℕ) (e : Holder) (k : ℕ) → First (λ w. eqb h.customer w.customer) ws i → e ≡ get_or ws i e → k ≡ max e.number h.number → set ws i (record { customer = e.customer; number = k }) ≡ put_waiting h ws
+pub put-at : (h : Holder) (ws : List Holder) (i : ℕ) (e : Holder) (k : ℕ) → First (λ w. eqb h.customer w.customer) ws i → e ≡ get_or ws i e
+    → k ≡ max e.number h.number → set ws i (record { customer = e.customer; number = k }) ≡ put_waiting h ws
 put-at h ws i e k first is number =
     ap (λ (n : ℕ). set ws i (record { customer = e.customer; number = n })) number
     ∙ ap (λ (x : Holder). set ws i (record { customer = x.customer; number = max x.number h.number })) is
@@ -78,15 +82,18 @@ pub put-none : (h : Holder) (ws : List Holder) → NonePass (λ w. eqb h.custome
 put-none h [] is = refl
 put-none h (w ∷ ws) is = rw is.0 (ap (λ (l : List Holder). w ∷ l) (put-none h ws is.1))
 
-pub without-first : (freed : List ℕ) (c k : ℕ) (ws : List Holder) (i : ℕ) → k ≡ freed_in freed c → First (λ w. eqb w.customer c && leb w.number k) ws i → take i ws ++ drop (i + 1) ws ≡ without freed c ws
-without-first freed c k ws i same is = ap (λ (n : ℕ). take i ws ++ drop n ws) (add-one i) ∙ by ws i (subst (λ (j : ℕ). First (λ w. eqb w.customer c && leb w.number j) ws i) same is)
+pub without-first : (freed : List ℕ) (c k : ℕ) (ws : List Holder) (i : ℕ) → k ≡ freed_in freed c
+    → First (λ w. eqb w.customer c && leb w.number k) ws i → take i ws ++ drop (i + 1) ws ≡ without freed c ws
+without-first freed c k ws i same is =
+    ap (λ (n : ℕ). take i ws ++ drop n ws) (add-one i) ∙ by ws i (subst (λ (j : ℕ). First (λ w. eqb w.customer c && leb w.number j) ws i) same is)
   where
     by : (vs : List Holder) (j : ℕ) → First (is_freed freed c) vs j → take j vs ++ drop (suc j) vs ≡ without freed c vs
     by [] j here = absurd here
     by (v ∷ vs) zero here = rw here refl
     by (v ∷ vs) (suc j) here = rw here.0 (ap (λ (l : List Holder). v ∷ l) (by vs j here.1))
 
-pub without-none : (freed : List ℕ) (c k : ℕ) (ws : List Holder) → k ≡ freed_in freed c → NonePass (λ w. eqb w.customer c && leb w.number k) ws → ws ≡ without freed c ws
+pub without-none : (freed : List ℕ) (c k : ℕ) (ws : List Holder) → k ≡ freed_in freed c → NonePass (λ w. eqb w.customer c && leb w.number k) ws
+    → ws ≡ without freed c ws
 without-none freed c k ws same is = by ws (subst (λ (j : ℕ). NonePass (λ w. eqb w.customer c && leb w.number j) ws) same is)
   where
     by : (vs : List Holder) → NonePass (is_freed freed c) vs → vs ≡ without freed c vs
@@ -116,7 +123,8 @@ put-waiting n h (w ∷ ws) low is =
       | inl same ↦ rw same is
       | inr fails ↦
           let once : waits w.customer (put_waiting h ws) ≡ false = waits-put w.customer h ws (eqb-swap h.customer w.customer fails) (not-true _ first.1) in
-          rw fails (and_from (leb w.customer n && not (waits w.customer (put_waiting h ws))) (are_waiting n (put_waiting h ws)) (rw (first.0, once) refl) (put-waiting n h ws low both.1))
+          rw fails (and_from (leb w.customer n && not (waits w.customer (put_waiting h ws))) (are_waiting n (put_waiting h ws)) (rw (first.0, once) refl)
+          (put-waiting n h ws low both.1))
     ]
 
 waits-without : (freed : List ℕ) (b c : ℕ) (ws : List Holder) → waits c ws ≡ false → waits c (without freed b ws) ≡ false
@@ -137,7 +145,8 @@ without-waiting n freed c (w ∷ ws) is =
       | inl passes ↦ rw passes both.1
       | inr fails ↦
           let once : waits w.customer (without freed c ws) ≡ false = waits-without freed c w.customer ws (not-true _ first.1) in
-          rw fails (and_from (leb w.customer n && not (waits w.customer (without freed c ws))) (are_waiting n (without freed c ws)) (rw (first.0, once) refl) (without-waiting n freed c ws both.1))
+          rw fails (and_from (leb w.customer n && not (waits w.customer (without freed c ws))) (are_waiting n (without freed c ws)) (rw (first.0, once) refl)
+          (without-waiting n freed c ws both.1))
     ]
 
 -- ---- there is room
@@ -173,9 +182,11 @@ not-waiting h [] none = refl
 not-waiting h (w ∷ ws) none = rw none.0 (not-waiting h ws none.1)
 
 -- before a customer that doesn't wait is put behind the others, all of them are no more than the customers
-pub room : (n : ℕ) (h : Holder) (ws : List Holder) → h.customer ≤ n → NonePass (λ w. eqb h.customer w.customer) ws → are_waiting n ws ≡ true → length ws ≤ n
+pub room : (n : ℕ) (h : Holder) (ws : List Holder) → h.customer ≤ n → NonePass (λ w. eqb h.customer w.customer) ws → are_waiting n ws ≡ true
+    → length ws ≤ n
 room n h ws low none is =
-    let all : are_waiting n (h ∷ ws) ≡ true = and_from (leb h.customer n && not (waits h.customer ws)) (are_waiting n ws) (rw (le-leb h.customer n low, not-waiting h ws none) refl) is in
+    let all : are_waiting n (h ∷ ws) ≡ true =
+    and_from (leb h.customer n && not (waits h.customer ws)) (are_waiting n ws) (rw (le-leb h.customer n low, not-waiting h ws none) refl) is in
     let most = length-le_from_distinct_below (map (λ (w : Holder). w.customer) (h ∷ ws)) (n + 1) (distinct n (h ∷ ws) all) (below n (h ∷ ws) all) in
     omega (arith, most, length-customers (h ∷ ws))
 

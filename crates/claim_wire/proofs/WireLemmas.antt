@@ -1,5 +1,6 @@
 -- Every run of the wire keeps the facts, and they make it safe.
-use Rattle.std.proofs.Common.{◌≡◌, ◌⊎◌, ℕ, zero, suc, ◌<◌, ◌≤◌, List, [], ◌∷◌, ◌++◌, length, get_or, slice_get, Option, None, Some, option_map, is_some, cond, refl, sym, ◌∙◌, ap, subst, inl, inr, arith, length-append}
+use Rattle.std.proofs.Common.{◌≡◌, ◌⊎◌, ℕ, zero, suc, ◌<◌, ◌≤◌, List, [], ◌∷◌, ◌++◌, length, get_or, slice_get, Option, None}
+use Rattle.std.proofs.Common.{Some, option_map, is_some, cond, refl, sym, ◌∙◌, ap, subst, inl, inr, arith, length-append}
 use Rattle.std.specs.List.{Contains}
 use Rattle.claim_wire.specs.declared.customer.Phase.TheVariants as phases
 use Rattle.claim_wire.specs.declared.event.Event.{Event}
@@ -14,7 +15,8 @@ use Rattle.claim_wire.specs.Customers.{CustomerState, Move, new_customer}
 use Rattle.claim_wire.specs.Facts.{Facts, IsAway, IsPast, IsTargeted, IsRequest, IsSafe, HasOneHolder, leave_message, grant_message}
 use Rattle.claim_wire.specs.Resources as resource
 use Rattle.claim_wire.specs.Resources.{ResourceState, Change, freed_in, freed_of, new_resource, silent, zeros}
-use Rattle.claim_wire.specs.Wires.{WireState, at, with_customer, moved, with_resource, changed, comes, comes_by, happens, fault_of, step, run, new_wire, new_customers, new_resources}
+use Rattle.claim_wire.specs.Wires.{WireState, at, with_customer, moved, with_resource, changed, comes, comes_by, happens, fault_of, step, run, new_wire}
+use Rattle.claim_wire.specs.Wires.{new_customers, new_resources}
 use Rattle.claim_wire.proofs.CustomerLemmas as moves
 use Rattle.claim_wire.proofs.CustomerLemmas.{moved-facts}
 use Rattle.claim_wire.proofs.ListLemmas.{contains-none}
@@ -24,32 +26,44 @@ use Rattle.claim_wire.proofs.ResourceLemmas.{changed-facts}
 
 -- ---- one event
 
-moved-by : (w : WireState) (c : ℕ) (f : CustomerState → Move) → Facts w → ((s : CustomerState) → s.id ≡ c → moves.Keeps w.sent s (f s).0 (f s).1) → (o : Option CustomerState) → at w.customers c ≡ o → Facts (moved c (option_map f o) w)
+moved-by : (w : WireState) (c : ℕ) (f : CustomerState → Move) → Facts w → ((s : CustomerState) → s.id ≡ c → moves.Keeps w.sent s (f s).0 (f s).1)
+    → (o : Option CustomerState) → at w.customers c ≡ o → Facts (moved c (option_map f o) w)
 moved-by w c f facts keeps None is = facts
 moved-by w c f facts keeps (Some s) is = moved-facts w facts c s (f s).0 (f s).1 is (keeps s (facts.customers c s is))
 
-with_customer-facts : (w : WireState) (c : ℕ) (f : CustomerState → Move) → Facts w → ((s : CustomerState) → s.id ≡ c → moves.Keeps w.sent s (f s).0 (f s).1) → Facts (with_customer c f w)
+with_customer-facts : (w : WireState) (c : ℕ) (f : CustomerState → Move) → Facts w
+    → ((s : CustomerState) → s.id ≡ c → moves.Keeps w.sent s (f s).0 (f s).1) → Facts (with_customer c f w)
 with_customer-facts w c f facts keeps = moved-by w c f facts keeps (at w.customers c) refl
 
-changed-by : (w : WireState) (i : ℕ) (f : ResourceState → Change) → Facts w → ((r : ResourceState) → r.id ≡ i → changes.Keeps w.sent r (f r).0 (f r).1) → (o : Option ResourceState) → at w.resources i ≡ o → Facts (changed i (option_map f o) w)
+changed-by : (w : WireState) (i : ℕ) (f : ResourceState → Change) → Facts w
+    → ((r : ResourceState) → r.id ≡ i → changes.Keeps w.sent r (f r).0 (f r).1) → (o : Option ResourceState) → at w.resources i ≡ o
+    → Facts (changed i (option_map f o) w)
 changed-by w i f facts keeps None is = facts
 changed-by w i f facts keeps (Some r) is = changed-facts w facts i r (f r).0 (f r).1 is (keeps r (facts.resources i r is))
 
-with_resource-facts : (w : WireState) (i : ℕ) (f : ResourceState → Change) → Facts w → ((r : ResourceState) → r.id ≡ i → changes.Keeps w.sent r (f r).0 (f r).1) → Facts (with_resource i f w)
+with_resource-facts : (w : WireState) (i : ℕ) (f : ResourceState → Change) → Facts w
+    → ((r : ResourceState) → r.id ≡ i → changes.Keeps w.sent r (f r).0 (f r).1) → Facts (with_resource i f w)
 with_resource-facts w i f facts keeps = changed-by w i f facts keeps (at w.resources i) refl
 
 -- a message that was sent comes
-taken-ask : (sent : List Message) (r : ResourceState) (m : Message) → m.kind ≡ kinds.Ask → changes.Keeps sent r (resource.take m r).0 (resource.take m r).1
-taken-ask sent r m kind = subst (λ (k : MessageKind). changes.Keeps sent r (resource.take_by k m r).0 (resource.take_by k m r).1) (sym kind) (changes.ask-keeps sent r m)
+taken-ask : (sent : List Message) (r : ResourceState) (m : Message) → m.kind ≡ kinds.Ask
+    → changes.Keeps sent r (resource.take m r).0 (resource.take m r).1
+taken-ask sent r m kind =
+    subst (λ (k : MessageKind). changes.Keeps sent r (resource.take_by k m r).0 (resource.take_by k m r).1) (sym kind) (changes.ask-keeps sent r m)
 
-taken-leave : (sent : List Message) (r : ResourceState) (m : Message) → m.kind ≡ kinds.Leave → m.resource ≡ r.id → Contains sent m → changes.Keeps sent r (resource.take m r).0 (resource.take m r).1
-taken-leave sent r m kind to has = subst (λ (k : MessageKind). changes.Keeps sent r (resource.take_by k m r).0 (resource.take_by k m r).1) (sym kind) (changes.leave-keeps sent r m kind to has)
+taken-leave : (sent : List Message) (r : ResourceState) (m : Message) → m.kind ≡ kinds.Leave → m.resource ≡ r.id → Contains sent m
+    → changes.Keeps sent r (resource.take m r).0 (resource.take m r).1
+taken-leave sent r m kind to has =
+    subst (λ (k : MessageKind). changes.Keeps sent r (resource.take_by k m r).0 (resource.take_by k m r).1) (sym kind)
+    (changes.leave-keeps sent r m kind to has)
 
 comes-by : (w : WireState) (m : Message) (kind : MessageKind) → Facts w → Contains w.sent m → m.kind ≡ kind → Facts (comes_by kind m w)
 comes-by w m kinds.Ask facts has kind = with_resource-facts w m.resource (resource.take m) facts (λ r to. taken-ask w.sent r m kind)
 comes-by w m kinds.Leave facts has kind = with_resource-facts w m.resource (resource.take m) facts (λ r to. taken-leave w.sent r m kind (sym to) has)
-comes-by w m kinds.Grant facts has kind = with_customer-facts w m.customer (λ s. (customer.take m s, None)) facts (λ s to. moves.take-keeps w.sent s m (sym to) has)
-comes-by w m kinds.Gone facts has kind = with_customer-facts w m.customer (λ s. (customer.take m s, None)) facts (λ s to. moves.take-keeps w.sent s m (sym to) has)
+comes-by w m kinds.Grant facts has kind =
+    with_customer-facts w m.customer (λ s. (customer.take m s, None)) facts (λ s to. moves.take-keeps w.sent s m (sym to) has)
+comes-by w m kinds.Gone facts has kind =
+    with_customer-facts w m.customer (λ s. (customer.take m s, None)) facts (λ s to. moves.take-keeps w.sent s m (sym to) has)
 
 contains-at : {A : Type 0} (xs : List A) (i : ℕ) (x : A) → slice_get xs i ≡ Some x → Contains xs x
 contains-at [] i x is = absurd (cc)
@@ -63,7 +77,8 @@ at-contains xs (suc i) x is = contains-at xs i x is
 pub given-facts : (w : WireState) (m : Message) → Facts w → Contains w.sent m → Facts (with_customer m.customer (λ s. (customer.take m s, None)) w)
 given-facts w m facts has = with_customer-facts w m.customer (λ s. (customer.take m s, None)) facts (λ s to. moves.take-keeps w.sent s m (sym to) has)
 
-pub requested-facts : (w : WireState) (m : Message) → Facts w → Contains w.sent m → IsRequest m.kind → Facts (with_resource m.resource (resource.take m) w)
+pub requested-facts : (w : WireState) (m : Message) → Facts w → Contains w.sent m → IsRequest m.kind
+    → Facts (with_resource m.resource (resource.take m) w)
 requested-facts w m facts has request = by m.kind refl
   where
     by : (kind : MessageKind) → m.kind ≡ kind → Facts (with_resource m.resource (resource.take m) w)
@@ -81,7 +96,8 @@ happens-facts (events.Ask c r) w facts = with_customer-facts w c (customer.ask r
 happens-facts (events.Again c) w facts = with_customer-facts w c (λ s. (s, customer.again s)) facts (λ s to. moves.again-keeps w.sent s s.phase refl)
 happens-facts (events.Leave c) w facts = with_customer-facts w c customer.leave facts (λ s to. moves.leave-keeps w.sent s s.phase refl)
 happens-facts (events.Deliver n) w facts = comes-facts w n facts (at w.sent n) refl
-happens-facts (events.RestartCustomer c) w facts = with_customer-facts w c (λ s. (customer.restart s, None)) facts (λ s to. moves.restart-keeps w.sent s s.target refl)
+happens-facts (events.RestartCustomer c) w facts =
+    with_customer-facts w c (λ s. (customer.restart s, None)) facts (λ s to. moves.restart-keeps w.sent s s.target refl)
 happens-facts (events.RestartResource i) w facts = with_resource-facts w i (λ r. (resource.restart r, silent)) facts (λ r to. changes.restart-keeps w.sent r)
 happens-facts events.Show w facts = facts
 
@@ -98,7 +114,8 @@ run-facts (event ∷ list) w facts = run-facts list (step event w) (step-facts e
 
 -- ---- the beginning
 
-last-at : {A : Type 0} (xs : List A) (x y : A) (j : ℕ) → slice_get (xs ++ x ∷ []) j ≡ Some y → ((j ≡ length xs) × (y ≡ x)) ⊎ (slice_get xs j ≡ Some y)
+last-at : {A : Type 0} (xs : List A) (x y : A) (j : ℕ) → slice_get (xs ++ x ∷ []) j ≡ Some y
+    → ((j ≡ length xs) × (y ≡ x)) ⊎ (slice_get xs j ≡ Some y)
 last-at [] x y zero is = let same : x ≡ y = cc in inl (refl, sym same)
 last-at [] x y (suc j) is = absurd (cc)
 last-at (z ∷ zs) x y zero is = inr is
@@ -110,7 +127,8 @@ new_customers-length (suc n) = omega (arith, new_customers-length n, length-appe
 
 pub new_resources-length : (customers n : ℕ) → length (new_resources customers n) ≡ n
 new_resources-length customers zero = refl
-new_resources-length customers (suc n) = omega (arith, new_resources-length customers n, length-append (new_resources customers n) (new_resource customers (suc n) ∷ []))
+new_resources-length customers (suc n) =
+    omega (arith, new_resources-length customers n, length-append (new_resources customers n) (new_resource customers (suc n) ∷ []))
 
 new_customers-at : (n j : ℕ) (s : CustomerState) → slice_get (new_customers n) j ≡ Some s → s ≡ new_customer (suc j)
 new_customers-at zero j s is = absurd (cc)
@@ -124,7 +142,8 @@ new_resources-at : (customers n j : ℕ) (r : ResourceState) → slice_get (new_
 new_resources-at customers zero j r is = absurd (cc)
 new_resources-at customers (suc n) j r is =
     elim (last-at (new_resources customers n) (new_resource customers (suc n)) r j is) [
-      | inl here ↦ let same : n ≡ j = omega (arith, here.0, new_resources-length customers n) in here.1 ∙ ap (λ (k : ℕ). new_resource customers (suc k)) same
+      | inl here ↦ let same : n ≡ j =
+          omega (arith, here.0, new_resources-length customers n) in here.1 ∙ ap (λ (k : ℕ). new_resource customers (suc k)) same
       | inr other ↦ new_resources-at customers n j r other
     ]
 
@@ -158,7 +177,9 @@ new-facts resources customers = record {
   targeted = λ c s is. subst (λ (v : CustomerState). IsTargeted v.target v.phase v.number) (sym (customers-at customers c s is)) refl;
   numbered = λ c s is. let none : s.number ≡ 0 = ap (λ (v : CustomerState). v.number) (customers-at customers c s is) in omega arith;
   named = λ m has. absurd (contains-none m has);
-  sized = λ i r is. ap (λ (v : ResourceState). length v.freed) (resources-at customers resources i r is) ∙ zeros-length customers ∙ sym (new_customers-length customers);
+  sized =
+      λ i r is. ap (λ (v : ResourceState). length v.freed) (resources-at customers resources i r is) ∙ zeros-length customers
+      ∙ sym (new_customers-length customers);
 }
 
 -- ---- safety

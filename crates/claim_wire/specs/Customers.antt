@@ -27,7 +27,10 @@ Move = CustomerState × Option Message
 
 -- an idle customer asks for a resource: its number rises by one; in any other phase nothing happens
 abbrev pub ask_by : Phase → ℕ → CustomerState → Move
-ask_by phases.Idle r c = (record { id = c.id; number = c.number + 1; target = Some r; phase = phases.Asked }, Some (record { kind = kinds.Ask; customer = c.id; resource = r; number = c.number + 1 }))
+ask_by phases.Idle r c = (
+  record { id = c.id; number = c.number + 1; target = Some r; phase = phases.Asked },
+  Some (record { kind = kinds.Ask; customer = c.id; resource = r; number = c.number + 1 }),
+)
 ask_by phase r c = (c, None)
 
 -- a customer asks for a resource, by its phase

@@ -44,13 +44,16 @@ pub record Facts (w : WireState) : Type 0 where
   pub customers : (c : ℕ) (s : CustomerState) → at w.customers c ≡ Some s → s.id ≡ c
   pub resources : (i : ℕ) (r : ResourceState) → at w.resources i ≡ Some r → r.id ≡ i
   -- each claim that was ever granted is held or freed
-  pub granted : (m : Message) → Contains w.sent m → m.kind ≡ kinds.Grant → (r : ResourceState) → at w.resources m.resource ≡ Some r → IsHeldOrFreed r m
+  pub granted : (m : Message) → Contains w.sent m → m.kind ≡ kinds.Grant → (r : ResourceState) → at w.resources m.resource ≡ Some r
+      → IsHeldOrFreed r m
   -- what is freed was left
   pub freed : (i c : ℕ) (r : ResourceState) → at w.resources i ≡ Some r → 0 < freed_of r c → Contains w.sent (leave_message c i (freed_of r c))
   -- who left a claim is past it
-  pub left : (m : Message) → Contains w.sent m → m.kind ≡ kinds.Leave → (s : CustomerState) → at w.customers m.customer ≡ Some s → IsPast m.number s
+  pub left : (m : Message) → Contains w.sent m → m.kind ≡ kinds.Leave → (s : CustomerState) → at w.customers m.customer ≡ Some s
+      → IsPast m.number s
   -- who holds a claim was granted it
-  pub holding : (c : ℕ) (s : CustomerState) → at w.customers c ≡ Some s → s.phase ≡ phases.Holding → (r : ℕ) × (s.target ≡ Some r) × Contains w.sent (grant_message c r s.number)
+  pub holding : (c : ℕ) (s : CustomerState) → at w.customers c ≡ Some s → s.phase ≡ phases.Holding
+      → (r : ℕ) × (s.target ≡ Some r) × Contains w.sent (grant_message c r s.number)
   pub targeted : (c : ℕ) (s : CustomerState) → at w.customers c ≡ Some s → IsTargeted s.target s.phase s.number
   -- each claim took a message
   pub numbered : (c : ℕ) (s : CustomerState) → at w.customers c ≡ Some s → s.number ≤ length w.sent

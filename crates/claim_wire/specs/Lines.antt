@@ -1,5 +1,6 @@
 -- The event that a line of a schedule names.
-use Rattle.std.specs.Prelude.{ℕ, ◌||◌, ◌&&◌, ◌==◌, nat_le, List, slice_index, Option, None, Some, option_map, option_and_then, Result, Ok, Err, codes, if◌then◌else◌}
+use Rattle.std.specs.Prelude.{ℕ, ◌||◌, ◌&&◌, ◌==◌, nat_le, List, slice_index, Option, None, Some, option_map, option_and_then, Result, Ok, Err}
+use Rattle.std.specs.Prelude.{codes, if◌then◌else◌}
 use Rattle.std.specs.Str.{bytes_eq}
 use Rattle.pool_text.specs.Number.{number_of}
 use Rattle.pool_text.specs.Words.{is_empty, past_blanks, word_of, words_behind}
@@ -73,7 +74,8 @@ read_verb resources customers (Some verb) words = read (event_by resources custo
 
 -- a text from its first word on: no event where it is empty or a comment
 abbrev pub event_in : ℕ → ℕ → List ℕ → Result (Option Event) LineFault
-event_in resources customers text = if is_empty text || slice_index text 0 == 35 then Ok None else read_verb resources customers (verb_of (word_of text)) (words_behind text)
+event_in resources customers text =
+    if is_empty text || slice_index text 0 == 35 then Ok None else read_verb resources customers (verb_of (word_of text)) (words_behind text)
 
 -- the event that a line names, none where it is blank or a comment, or what is wrong with it
 abbrev pub event_of : ℕ → ℕ → List ℕ → Result (Option Event) LineFault

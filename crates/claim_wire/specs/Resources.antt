@@ -1,5 +1,6 @@
 -- The resource's end of a claim.
-use Rattle.std.specs.Prelude.{ℕ, zero, suc, max, Bool, true, false, not, ◌&&◌, ◌||◌, ◌==◌, nat_le, List, [], ◌∷◌, drop, slice_index, slice_set, Option, None, Some, option_map, if◌then◌else◌}
+use Rattle.std.specs.Prelude.{ℕ, zero, suc, max, Bool, true, false, not, ◌&&◌, ◌||◌, ◌==◌, nat_le, List, [], ◌∷◌, drop, slice_index}
+use Rattle.std.specs.Prelude.{slice_set, Option, None, Some, option_map, if◌then◌else◌}
 use Rattle.claim_wire.specs.declared.message.Answers.{Answers}
 use Rattle.claim_wire.specs.declared.message.Holder.{Holder}
 use Rattle.claim_wire.specs.declared.message.Message.{Message}

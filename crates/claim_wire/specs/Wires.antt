@@ -1,6 +1,7 @@
 -- The wire: resources, customers, and all messages that were ever sent. A message may be delivered any number of times,
 -- in any order, or never.
-use Rattle.std.specs.Prelude.{◌≡◌, ℕ, zero, suc, ◌<◌, ◌≤◌, nat_lt, List, [], ◌∷◌, ◌++◌, length, slice_get, slice_set, Option, None, Some, option_map, option_and_then, is_some, if◌then◌else◌}
+use Rattle.std.specs.Prelude.{◌≡◌, ℕ, zero, suc, ◌<◌, ◌≤◌, nat_lt, List, [], ◌∷◌, ◌++◌, length, slice_get, slice_set, Option, None}
+use Rattle.std.specs.Prelude.{Some, option_map, option_and_then, is_some, if◌then◌else◌}
 use Rattle.claim_wire.specs.declared.customer.Phase.{Phase}
 use Rattle.claim_wire.specs.declared.customer.Phase.TheVariants as phases
 use Rattle.claim_wire.specs.declared.event.Event.{Event}

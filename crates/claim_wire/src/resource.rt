@@ -1,5 +1,6 @@
 // The resource's end of a claim.
-ghost use Rattle.std.specs.Prelude.{◌≡◌, ◌<◌, ◌≤◌, ◌+◌, ◌++◌, ◌∷◌, ◌&&◌, [], true, false, length, max, slice_set, Option, Some, None, option_map, position, nat_le, ◌==◌, IfOk};
+ghost use Rattle.std.specs.Prelude.{◌≡◌, ◌<◌, ◌≤◌, ◌+◌, ◌++◌, ◌∷◌, ◌&&◌, [], true, false, length, max, slice_set, Option, Some, None, option_map, position};
+ghost use Rattle.std.specs.Prelude.{nat_le, ◌==◌, IfOk};
 ghost use Rattle.claim_wire.specs.Resources as spec;
 
 use crate::message::{Answers, Holder, Message, MessageKind};
@@ -207,7 +208,13 @@ impl Resource {
     /// Takes a customer out of those that wait, where its number there is freed.
     fn wait_no_more(&mut self, customer: u32, freed: u64)
         requires { (0 < customer) × (freed ≡ spec.freed_of self.old customer) }
-        ensures { self.new ≡ record { id = self.old.id; holder = self.old.holder; freed = self.old.freed; waiting = spec.without self.old.freed customer self.old.waiting } }
+        ensures { self.new ≡ record {
+          id =
+              self.old.id;
+          holder = self.old.holder;
+          freed = self.old.freed;
+          waiting = spec.without self.old.freed customer self.old.waiting;
+        } }
     {
         if let Some(i) = freed_place(&self.waiting, customer, freed) {
             let _claim = self.waiting.remove(i);

@@ -11,7 +11,8 @@ abbrev pub mail_names : List Mail → List (List ℕ)
 mail_names mails = map (λ (mail : Mail). mail.name) mails
 
 -- those of one mailbox more
-more_names : (mails : List Mail) (k : ℕ) (mail : Mail) → k < length mails → mail ≡ slice_index_or mails k mail → mail_names (take (k + 1) mails) ≡ mail_names (take k mails) ++ mail.name ∷ []
+more_names : (mails : List Mail) (k : ℕ) (mail : Mail) → k < length mails → mail ≡ slice_index_or mails k mail
+    → mail_names (take (k + 1) mails) ≡ mail_names (take k mails) ++ mail.name ∷ []
 more_names mails k mail within at = ap (λ n. mail_names (take n mails)) (add-one k) ∙ by mails k within at
   where
     by : (ms : List Mail) (k : ℕ) → k < length ms → mail ≡ slice_index_or ms k mail → mail_names (take (suc k) ms) ≡ mail_names (take k ms) ++ mail.name ∷ []
@@ -27,8 +28,10 @@ module _ {X : Type 0} {F : X → Type 0} (see : Sight X F) where
 
   -- a desk that has the names of some mailboxes, and one row more
   pub names-next : (mails : List Mail) (k : ℕ) (mail : Mail) (name : List ℕ) (old new : List (Entry X F)) (taking : Taking)
-      → k < length mails → mail ≡ slice_index_or mails k mail → name ≡ mail.name → entry_names old ≡ mail_names (take k mails) → rows_of see new ≡ rows_of see old ++ new_row name taking ∷ []
+      → k < length mails → mail ≡ slice_index_or mails k mail → name ≡ mail.name → entry_names old ≡ mail_names (take k mails)
+      → rows_of see new ≡ rows_of see old ++ new_row name taking ∷ []
       → entry_names new ≡ mail_names (take (k + 1) mails)
   names-next mails k mail name old new taking within at is named push =
       sym (rows-named new) ∙ ap names_of push ∙ map-append (λ (row : Row). row.name) (rows_of see old) (new_row name taking ∷ [])
-      ∙ ap (λ (ns : List (List ℕ)). ns ++ name ∷ []) (rows-named old ∙ named) ∙ ap (λ (n : List ℕ). mail_names (take k mails) ++ n ∷ []) is ∙ sym (more_names mails k mail within at)
+      ∙ ap (λ (ns : List (List ℕ)). ns ++ name ∷ []) (rows-named old ∙ named) ∙ ap (λ (n : List ℕ). mail_names (take k mails) ++ n ∷ []) is
+      ∙ sym (more_names mails k mail within at)

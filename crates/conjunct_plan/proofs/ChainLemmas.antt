@@ -1,5 +1,6 @@
 -- The conjuncts of a chain, element by element: how many they are, and which stands where.
-use Rattle.std.proofs.Common.{◌≡◌, ◌∙◌, ap, sym, ℕ, zero, suc, ◌+◌, ◌<◌, List, [], ◌∷◌, ◌++◌, append_assoc, drop, length, length-append, Some, slice_get, refl, arith}
+use Rattle.std.proofs.Common.{◌≡◌, ◌∙◌, ap, sym, ℕ, zero, suc, ◌+◌, ◌<◌, List, [], ◌∷◌, ◌++◌, append_assoc, drop, length, length-append, Some, slice_get, refl}
+use Rattle.std.proofs.Common.{arith}
 use Rattle.ad_tree.specs.Tree.{Tree, pack}
 use Rattle.ad_tree.proofs.TreeLemmas.{pack-drop}
 use Rattle.conjunct_plan.specs.Tests.{conjuncts, conjuncts_of_all}
@@ -16,7 +17,8 @@ pub count-here : (ts : List Tree) (i : ℕ) (t : Tree) → slice_get ts i ≡ So
 count-here ts i t is = ap length (left-here ts i t is) ∙ length-append (conjuncts t) (left ts (i + 1))
 
 -- gathered behind others
-pub gathered-here : (ts : List Tree) (i : ℕ) (t : Tree) → slice_get ts i ≡ Some t → (old new : List Tree) → new ≡ old ++ conjuncts t → new ++ left ts (i + 1) ≡ old ++ left ts i
+pub gathered-here : (ts : List Tree) (i : ℕ) (t : Tree) → slice_get ts i ≡ Some t → (old new : List Tree) → new ≡ old ++ conjuncts t
+    → new ++ left ts (i + 1) ≡ old ++ left ts i
 gathered-here ts i t is old new added =
     ap (λ found. found ++ left ts (i + 1)) added ∙ append_assoc old (conjuncts t) (left ts (i + 1)) ∙ ap (λ rest. old ++ rest) (sym (left-here ts i t is))
 

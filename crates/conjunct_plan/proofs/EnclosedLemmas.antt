@@ -25,7 +25,8 @@ module _ (fs : List Frame) (lower : (f parent : ℕ) → parent_of fs f ≡ Some
   upward-more (suc n) (suc m) f below within =
       ap (λ rest. f ∷ rest) (by (λ p less. upward-more n m p (omega (arith, less, below)) (omega (arith, less, within))) (parent_of fs f) refl)
     where
-      by : ((p : ℕ) → p < f → upward n fs (Some p) ≡ upward m fs (Some p)) → (parent : Option ℕ) → parent_of fs f ≡ parent → upward n fs parent ≡ upward m fs parent
+      by : ((p : ℕ) → p < f → upward n fs (Some p) ≡ upward m fs (Some p)) → (parent : Option ℕ) → parent_of fs f ≡ parent
+          → upward n fs parent ≡ upward m fs parent
       by more None is = no-frames n m fs
       by more (Some p) is = more p (lower f p is)
 

@@ -14,9 +14,11 @@ use Rattle.conjunct_plan.specs.Tests.{conjuncts, conjuncts_of_all, labels_of}
 tests-behind : (F : Tree → Option Test) (ts : List Tree) (i : ℕ) (t : Tree) → slice_get ts i ≡ Some t
     → filter_map F (conjuncts_of_all (pack (drop i ts))) ≡ filter_map F (conjuncts t) ++ filter_map F (conjuncts_of_all (pack (drop (i + 1) ts)))
 tests-behind F ts i t is =
-    ap (λ (rest : Trees). filter_map F (conjuncts_of_all rest)) (pack-drop ts i t is) ∙ filter_map-append F (conjuncts t) (conjuncts_of_all (pack (drop (i + 1) ts)))
+    ap (λ (rest : Trees). filter_map F (conjuncts_of_all rest)) (pack-drop ts i t is)
+    ∙ filter_map-append F (conjuncts t) (conjuncts_of_all (pack (drop (i + 1) ts)))
 
-pub added-behind : (F : Tree → Option Test) (ts : List Tree) (i : ℕ) (t : Tree) → slice_get ts i ≡ Some t → (old new : List Test) → new ≡ old ++ filter_map F (conjuncts t)
+pub added-behind : (F : Tree → Option Test) (ts : List Tree) (i : ℕ) (t : Tree) → slice_get ts i ≡ Some t → (old new : List Test)
+    → new ≡ old ++ filter_map F (conjuncts t)
     → new ++ filter_map F (conjuncts_of_all (pack (drop (i + 1) ts))) ≡ old ++ filter_map F (conjuncts_of_all (pack (drop i ts)))
 added-behind F ts i t is old new added =
     ap (λ tests. tests ++ filter_map F (conjuncts_of_all (pack (drop (i + 1) ts)))) added
@@ -24,7 +26,8 @@ added-behind F ts i t is old new added =
     ∙ ap (λ tests. old ++ tests) (sym (tests-behind F ts i t is))
 
 pub ruled-behind : (F : Tree → Option Test) (D : Test → Bool) (ts : List Tree) (i : ℕ) (t : Tree) → slice_get ts i ≡ Some t
-    → list_any D (filter_map F (conjuncts_of_all (pack (drop i ts)))) ≡ (list_any D (filter_map F (conjuncts t)) || list_any D (filter_map F (conjuncts_of_all (pack (drop (i + 1) ts)))))
+    → list_any D (filter_map F (conjuncts_of_all (pack (drop i ts))))
+    ≡ (list_any D (filter_map F (conjuncts t)) || list_any D (filter_map F (conjuncts_of_all (pack (drop (i + 1) ts)))))
 ruled-behind F D ts i t is =
     ap (list_any D) (tests-behind F ts i t is) ∙ list_any-append D (filter_map F (conjuncts t)) (filter_map F (conjuncts_of_all (pack (drop (i + 1) ts))))
 

@@ -29,14 +29,16 @@ module _ (fs : List Frame) (f : ℕ) (labels : List (List ℕ)) (other : List Fr
   alone : (t : Tree) → Some test ≡ test_of fs f labels t → verdict_by (is_decided test other g) (is_met test other g) ≡ verdict_on fs f labels other g (t ∷ [])
   alone t is =
       by (is_decided test other g) (is_met test other g)
-      ∙ ap (λ (o : Option Test). verdict_by (list_any (λ u. is_decided u other g) (cons_option o [])) (option_map_or (λ u. is_met u other g) o false && true)) is
+      ∙ ap (λ (o : Option Test). verdict_by (list_any (λ u. is_decided u other g) (cons_option o [])) (option_map_or (λ u. is_met u other g) o false && true))
+      is
     where
       by : (ruled met : Bool) → verdict_by ruled met ≡ verdict_by (ruled || false) (met && true)
       by true met = refl
       by false true = refl
       by false false = refl
 
-  pub says-alone : (t : Tree) → Some test ≡ test_of fs f labels t → verdict_by (is_decided test other g) (is_met test other g) ≡ verdict_on fs f labels other g (conjuncts t)
+  pub says-alone : (t : Tree) → Some test ≡ test_of fs f labels t
+      → verdict_by (is_decided test other g) (is_met test other g) ≡ verdict_on fs f labels other g (conjuncts t)
   says-alone (node all ts) is = absurd (cc)
   says-alone (node (literal lit) ts) is = alone (node (literal lit) ts) is
   says-alone (node (name s x) ts) is = alone (node (name s x) ts) is
@@ -63,7 +65,9 @@ module _ (F : Tree → Option Test) (D : Test → Bool) (M : Tree → Bool) (ts 
   abbrev now : Bool → Verdict
   now met = verdict_by (list_any D (filter_map F (conjuncts_of_all (from i)))) (met && list_all M (conjuncts_of_all (from i)))
 
-  parted : (met : Bool) → now met ≡ verdict_by (list_any D (filter_map F (conjuncts t)) || list_any D (filter_map F (conjuncts_of_all (from (i + 1))))) (met && (list_all M (conjuncts t) && list_all M (conjuncts_of_all (from (i + 1)))))
+  parted : (met : Bool)
+      → now met ≡ verdict_by (list_any D (filter_map F (conjuncts t)) || list_any D (filter_map F (conjuncts_of_all (from (i + 1))))) (met
+      && (list_all M (conjuncts t) && list_all M (conjuncts_of_all (from (i + 1)))))
   parted met =
       ap (λ ruled. verdict_by ruled (met && list_all M (conjuncts_of_all (from i)))) (ruled-behind F D ts i t here)
       ∙ ap (λ each. verdict_by (list_any D (filter_map F (conjuncts t)) || list_any D (filter_map F (conjuncts_of_all (from (i + 1))))) (met && each))
@@ -76,7 +80,9 @@ module _ (F : Tree → Option Test) (D : Test → Bool) (M : Tree → Bool) (ts 
   against-behind v met says is =
       parted met ∙ by (list_any D (filter_map F (conjuncts t))) (list_all M (conjuncts t)) says
     where
-      by : (ruled each : Bool) → v ≡ verdict_by ruled each → verdict_by (ruled || list_any D (filter_map F (conjuncts_of_all (from (i + 1))))) (met && (each && list_all M (conjuncts_of_all (from (i + 1))))) ≡ Verdict.Against
+      by : (ruled each : Bool) → v ≡ verdict_by ruled each
+          → verdict_by (ruled || list_any D (filter_map F (conjuncts_of_all (from (i + 1))))) (met && (each && list_all M (conjuncts_of_all (from (i + 1)))))
+          ≡ Verdict.Against
       by true each e = refl
       by false true e = absurd (cc)
       by false false e = absurd (cc)
@@ -85,7 +91,9 @@ module _ (F : Tree → Option Test) (D : Test → Bool) (M : Tree → Bool) (ts 
   for-behind v met says is =
       by (list_any D (filter_map F (conjuncts t))) (list_all M (conjuncts t)) says ∙ sym (parted met)
     where
-      by : (ruled each : Bool) → v ≡ verdict_by ruled each → later met ≡ verdict_by (ruled || list_any D (filter_map F (conjuncts_of_all (from (i + 1))))) (met && (each && list_all M (conjuncts_of_all (from (i + 1)))))
+      by : (ruled each : Bool) → v ≡ verdict_by ruled each
+          → later met ≡ verdict_by (ruled || list_any D (filter_map F (conjuncts_of_all (from (i + 1))))) (met
+          && (each && list_all M (conjuncts_of_all (from (i + 1)))))
       by true each e = absurd (cc)
       by false true e = refl
       by false false e = absurd (cc)
@@ -94,7 +102,9 @@ module _ (F : Tree → Option Test) (D : Test → Bool) (M : Tree → Bool) (ts 
   open-behind v met says is =
       by met (list_any D (filter_map F (conjuncts t))) (list_all M (conjuncts t)) says ∙ sym (parted met)
     where
-      by : (met ruled each : Bool) → v ≡ verdict_by ruled each → later false ≡ verdict_by (ruled || list_any D (filter_map F (conjuncts_of_all (from (i + 1))))) (met && (each && list_all M (conjuncts_of_all (from (i + 1)))))
+      by : (met ruled each : Bool) → v ≡ verdict_by ruled each
+          → later false ≡ verdict_by (ruled || list_any D (filter_map F (conjuncts_of_all (from (i + 1))))) (met
+          && (each && list_all M (conjuncts_of_all (from (i + 1)))))
       by met true each e = absurd (cc)
       by met false true e = absurd (cc)
       by true false false e = refl

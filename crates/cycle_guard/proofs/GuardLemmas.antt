@@ -1,5 +1,6 @@
 -- A guard from attribute to attribute.
-use Rattle.std.proofs.Common.{◌≡◌, ◌≢◌, ◌≤◌, ◌<◌, ◌+◌, ℕ, zero, suc, Bool, true, false, not, ◌&&◌, ◌==◌, refl, List, [], ◌∷◌, ◌++◌, length, drop, get_or, set, position, nat_lt, Option, Some, None, cond, ap, sym, ◌∙◌, subst, arith, ◌⊎◌, inl, inr}
+use Rattle.std.proofs.Common.{◌≡◌, ◌≢◌, ◌≤◌, ◌<◌, ◌+◌, ℕ, zero, suc, Bool, true, false, not, ◌&&◌, ◌==◌, refl, List, [], ◌∷◌, ◌++◌, length, drop, get_or, set}
+use Rattle.std.proofs.Common.{position, nat_lt, Option, Some, None, cond, ap, sym, ◌∙◌, subst, arith, ◌⊎◌, inl, inr}
 use Rattle.std.specs.Option.{option_or}
 use Rattle.std.specs.List.{position_or_len, refill}
 use Rattle.std.proofs.lemmas.Bool.Decides.{nat_tests}
@@ -49,7 +50,8 @@ same_pos-cases a b = by (same_pos a b) refl
 -- ---- entries
 
 -- the first entry of an attribute is what entries have of it
-pub entry_of-first : (es : List Entry) (q : Pos) (i : ℕ) (d : Entry) → i < length es → same_pos (get_or es i d).pos q ≡ true → ((k : ℕ) → k < i → same_pos (get_or es k d).pos q ≡ false) → entry_of es q ≡ Some (get_or es i d).kept
+pub entry_of-first : (es : List Entry) (q : Pos) (i : ℕ) (d : Entry) → i < length es → same_pos (get_or es i d).pos q ≡ true
+    → ((k : ℕ) → k < i → same_pos (get_or es k d).pos q ≡ false) → entry_of es q ≡ Some (get_or es i d).kept
 entry_of-first [] q i d within here before = absurd (omega arith)
 entry_of-first (e ∷ es) q zero d within here before = ap (λ t. cond t (Some e.kept) (entry_of es q)) here
 entry_of-first (e ∷ es) q (suc i) d within here before =
@@ -70,9 +72,11 @@ prefix-one false n = refl
 
 entry_of-past : (es : List Entry) (q : Pos) → length es ≤ position_or_len (λ e. same_pos e.pos q) es → entry_of es q ≡ None
 entry_of-past [] q past = refl
-entry_of-past (e ∷ es) q past = by (same_pos e.pos q) (rw (prefix-one (same_pos e.pos q) (position_or_len (λ e. same_pos e.pos q) es)) at past) (λ more. entry_of-past es q more)
+entry_of-past (e ∷ es) q past =
+    by (same_pos e.pos q) (rw (prefix-one (same_pos e.pos q) (position_or_len (λ e. same_pos e.pos q) es)) at past) (λ more. entry_of-past es q more)
   where
-    by : (t : Bool) → length (e ∷ es) ≤ cond t 0 (1 + position_or_len (λ e. same_pos e.pos q) es) → (length es ≤ position_or_len (λ e. same_pos e.pos q) es → entry_of es q ≡ None) → cond t (Some e.kept) (entry_of es q) ≡ None
+    by : (t : Bool) → length (e ∷ es) ≤ cond t 0 (1 + position_or_len (λ e. same_pos e.pos q) es)
+        → (length es ≤ position_or_len (λ e. same_pos e.pos q) es → entry_of es q ≡ None) → cond t (Some e.kept) (entry_of es q) ≡ None
     by true past more = absurd (omega arith)
     by false past more = more (omega arith)
 
@@ -80,23 +84,32 @@ pub entry_of-none : (es : List Entry) (q : Pos) → position (λ e. same_pos e.p
 entry_of-none es q none = entry_of-past es q (past-None (position_or_len (λ e. same_pos e.pos q) es) (length es) none)
 
 -- the value of the first entry is kept
-choose-kept : (x : Entry) (rest : Option (Option Kept)) (pos q : Pos) (kept : Option Kept) → x.pos ≡ pos → cond (same_pos x.pos q) (Some kept) rest ≡ cond (same_pos pos q) (Some kept) (cond (same_pos x.pos q) (Some x.kept) rest)
-choose-kept x rest pos q kept same = subst (λ p. cond (same_pos x.pos q) (Some kept) rest ≡ cond (same_pos p q) (Some kept) (cond (same_pos x.pos q) (Some x.kept) rest)) same (by (same_pos x.pos q))
+choose-kept : (x : Entry) (rest : Option (Option Kept)) (pos q : Pos) (kept : Option Kept) → x.pos ≡ pos
+    → cond (same_pos x.pos q) (Some kept) rest ≡ cond (same_pos pos q) (Some kept) (cond (same_pos x.pos q) (Some x.kept) rest)
+choose-kept x rest pos q kept same =
+    subst (λ p. cond (same_pos x.pos q) (Some kept) rest ≡ cond (same_pos p q) (Some kept) (cond (same_pos x.pos q) (Some x.kept) rest)) same
+    (by (same_pos x.pos q))
   where
     by : (t : Bool) → cond t (Some kept) rest ≡ cond t (Some kept) (cond t (Some x.kept) rest)
     by true = refl
     by false = refl
 
-pass-kept : (x : Entry) (rest : Option (Option Kept)) (pos q : Pos) (kept : Option Kept) → same_pos x.pos pos ≡ false → cond (same_pos x.pos q) (Some x.kept) (cond (same_pos pos q) (Some kept) rest) ≡ cond (same_pos pos q) (Some kept) (cond (same_pos x.pos q) (Some x.kept) rest)
+pass-kept : (x : Entry) (rest : Option (Option Kept)) (pos q : Pos) (kept : Option Kept) → same_pos x.pos pos ≡ false
+    → cond (same_pos x.pos q) (Some x.kept) (cond (same_pos pos q) (Some kept) rest)
+    ≡ cond (same_pos pos q) (Some kept) (cond (same_pos x.pos q) (Some x.kept) rest)
 pass-kept x rest pos q kept apart = by (same_pos-cases pos q)
   where
-    by : ((same_pos pos q ≡ true) × (pos ≡ q)) ⊎ ((same_pos pos q ≡ false) × (pos ≢ q)) → cond (same_pos x.pos q) (Some x.kept) (cond (same_pos pos q) (Some kept) rest) ≡ cond (same_pos pos q) (Some kept) (cond (same_pos x.pos q) (Some x.kept) rest)
+    by : ((same_pos pos q ≡ true) × (pos ≡ q)) ⊎ ((same_pos pos q ≡ false) × (pos ≢ q))
+        → cond (same_pos x.pos q) (Some x.kept) (cond (same_pos pos q) (Some kept) rest)
+        ≡ cond (same_pos pos q) (Some kept) (cond (same_pos x.pos q) (Some x.kept) rest)
     by (inl same) =
         let other : same_pos x.pos q ≡ false = subst (λ p. same_pos x.pos p ≡ false) same.1 apart in
         rw (other, same.0) refl
     by (inr other) = rw other.0 refl
 
-pub entry_of-kept : (es : List Entry) (i : ℕ) (e d : Entry) (pos q : Pos) (kept : Option Kept) → i < length es → e ≡ get_or es i d → e.pos ≡ pos → ((k : ℕ) → k < i → same_pos (get_or es k d).pos pos ≡ false) → entry_of (set es i (record { pos = e.pos; kept = kept })) q ≡ cond (same_pos pos q) (Some kept) (entry_of es q)
+pub entry_of-kept : (es : List Entry) (i : ℕ) (e d : Entry) (pos q : Pos) (kept : Option Kept) → i < length es → e ≡ get_or es i d → e.pos ≡ pos
+    → ((k : ℕ) → k < i → same_pos (get_or es k d).pos pos ≡ false)
+    → entry_of (set es i (record { pos = e.pos; kept = kept })) q ≡ cond (same_pos pos q) (Some kept) (entry_of es q)
 entry_of-kept [] i e d pos q kept within read same before = absurd (omega arith)
 entry_of-kept (x ∷ xs) zero e d pos q kept within read same before =
     let there : x.pos ≡ pos = ap (λ (y : Entry). y.pos) (sym read) ∙ same in
@@ -107,14 +120,16 @@ entry_of-kept (x ∷ xs) (suc i) e d pos q kept within read same before =
     ∙ pass-kept x (entry_of xs q) pos q kept (before zero (omega arith))
 
 -- one more entry
-push-choice : (x : Entry) (more all : Option (Option Kept)) (q : Pos) (last : Option (Option Kept)) → more ≡ option_or all last → cond (same_pos x.pos q) (Some x.kept) more ≡ option_or (cond (same_pos x.pos q) (Some x.kept) all) last
+push-choice : (x : Entry) (more all : Option (Option Kept)) (q : Pos) (last : Option (Option Kept)) → more ≡ option_or all last
+    → cond (same_pos x.pos q) (Some x.kept) more ≡ option_or (cond (same_pos x.pos q) (Some x.kept) all) last
 push-choice x more all q last rest = by (same_pos x.pos q)
   where
     by : (t : Bool) → cond t (Some x.kept) more ≡ option_or (cond t (Some x.kept) all) last
     by true = refl
     by false = rest
 
-pub entry_of-pushed : (es : List Entry) (e : Entry) (q : Pos) → entry_of (es ++ e ∷ []) q ≡ option_or (entry_of es q) (cond (same_pos e.pos q) (Some e.kept) None)
+pub entry_of-pushed : (es : List Entry) (e : Entry) (q : Pos)
+    → entry_of (es ++ e ∷ []) q ≡ option_or (entry_of es q) (cond (same_pos e.pos q) (Some e.kept) None)
 entry_of-pushed [] e q = refl
 entry_of-pushed (x ∷ xs) e q = push-choice x (entry_of (xs ++ e ∷ []) q) (entry_of xs q) q (cond (same_pos e.pos q) (Some e.kept) None) (entry_of-pushed xs e q)
 
@@ -135,36 +150,46 @@ option_or-None (Some a) b e = absurd (cc)
 
 -- what stands for an attribute after it is entered among the entries, or in the map
 module _ (o m : Option (Option Kept)) (pos q : Pos) where
-  pub entered_first : (pos ≡ q → sight_of_entry (option_or o m) ≡ unseen) → sight_of_entry (option_or (option_or o (cond (same_pos pos q) (Some None) None)) m) ≡ cond (same_pos pos q) pending (sight_of_entry (option_or o m))
+  pub entered_first : (pos ≡ q → sight_of_entry (option_or o m) ≡ unseen)
+      → sight_of_entry (option_or (option_or o (cond (same_pos pos q) (Some None) None)) m) ≡ cond (same_pos pos q) pending (sight_of_entry (option_or o m))
   entered_first fresh = by (same_pos-cases pos q)
     where
-      by : ((same_pos pos q ≡ true) × (pos ≡ q)) ⊎ ((same_pos pos q ≡ false) × (pos ≢ q)) → sight_of_entry (option_or (option_or o (cond (same_pos pos q) (Some None) None)) m) ≡ cond (same_pos pos q) pending (sight_of_entry (option_or o m))
+      by : ((same_pos pos q ≡ true) × (pos ≡ q)) ⊎ ((same_pos pos q ≡ false) × (pos ≢ q))
+          → sight_of_entry (option_or (option_or o (cond (same_pos pos q) (Some None) None)) m) ≡ cond (same_pos pos q) pending (sight_of_entry (option_or o m))
       by (inl same) =
           let none = (option_or-None o m (unseen-None (option_or o m) (fresh same.1))).0 in
           rw (same.0, none) refl
       by (inr other) = rw other.0 (ap (λ (x : Option (Option Kept)). sight_of_entry (option_or x m)) (option_or-with_None o))
 
-  pub entered_other : (pos ≡ q → sight_of_entry (option_or o m) ≡ unseen) → sight_of_entry (option_or o (cond (same_pos pos q) (Some None) m)) ≡ cond (same_pos pos q) pending (sight_of_entry (option_or o m))
+  pub entered_other : (pos ≡ q → sight_of_entry (option_or o m) ≡ unseen)
+      → sight_of_entry (option_or o (cond (same_pos pos q) (Some None) m)) ≡ cond (same_pos pos q) pending (sight_of_entry (option_or o m))
   entered_other fresh = by (same_pos-cases pos q)
     where
-      by : ((same_pos pos q ≡ true) × (pos ≡ q)) ⊎ ((same_pos pos q ≡ false) × (pos ≢ q)) → sight_of_entry (option_or o (cond (same_pos pos q) (Some None) m)) ≡ cond (same_pos pos q) pending (sight_of_entry (option_or o m))
+      by : ((same_pos pos q ≡ true) × (pos ≡ q)) ⊎ ((same_pos pos q ≡ false) × (pos ≢ q))
+          → sight_of_entry (option_or o (cond (same_pos pos q) (Some None) m)) ≡ cond (same_pos pos q) pending (sight_of_entry (option_or o m))
       by (inl same) =
           let none = (option_or-None o m (unseen-None (option_or o m) (fresh same.1))).0 in
           rw (same.0, none) refl
       by (inr other) = rw other.0 refl
 
 module _ (o m : Option (Option Kept)) (pos q : Pos) (kept : Kept) where
-  pub kept_first : sight_of_entry (option_or (cond (same_pos pos q) (Some (Some kept)) o) m) ≡ cond (same_pos pos q) (done (plain kept.value) kept.height) (sight_of_entry (option_or o m))
+  pub kept_first : sight_of_entry (option_or (cond (same_pos pos q) (Some (Some kept)) o) m)
+      ≡ cond (same_pos pos q) (done (plain kept.value) kept.height) (sight_of_entry (option_or o m))
   kept_first = by (same_pos pos q)
     where
-      by : (t : Bool) → sight_of_entry (option_or (cond t (Some (Some kept)) o) m) ≡ cond t (done (plain kept.value) kept.height) (sight_of_entry (option_or o m))
+      by : (t : Bool)
+          → sight_of_entry (option_or (cond t (Some (Some kept)) o) m) ≡ cond t (done (plain kept.value) kept.height) (sight_of_entry (option_or o m))
       by true = refl
       by false = refl
 
-  pub kept_other : (pos ≡ q → o ≡ None) → sight_of_entry (option_or o (cond (same_pos pos q) (Some (Some kept)) m)) ≡ cond (same_pos pos q) (done (plain kept.value) kept.height) (sight_of_entry (option_or o m))
+  pub kept_other : (pos ≡ q → o ≡ None)
+      → sight_of_entry (option_or o (cond (same_pos pos q) (Some (Some kept)) m))
+      ≡ cond (same_pos pos q) (done (plain kept.value) kept.height) (sight_of_entry (option_or o m))
   kept_other absent = by (same_pos-cases pos q)
     where
-      by : ((same_pos pos q ≡ true) × (pos ≡ q)) ⊎ ((same_pos pos q ≡ false) × (pos ≢ q)) → sight_of_entry (option_or o (cond (same_pos pos q) (Some (Some kept)) m)) ≡ cond (same_pos pos q) (done (plain kept.value) kept.height) (sight_of_entry (option_or o m))
+      by : ((same_pos pos q ≡ true) × (pos ≡ q)) ⊎ ((same_pos pos q ≡ false) × (pos ≢ q))
+          → sight_of_entry (option_or o (cond (same_pos pos q) (Some (Some kept)) m))
+          ≡ cond (same_pos pos q) (done (plain kept.value) kept.height) (sight_of_entry (option_or o m))
       by (inl same) = rw (same.0, absent same.1) refl
       by (inr other) = rw other.0 refl
 

@@ -52,14 +52,17 @@ all-true : (left : Plain) (rs : List (Option Plain)) → conjunction left rs ≡
 all-true left [] e = (cc, All-nil IsTrueResult)
 all-true left (r ∷ rs) e = by (λ p h. all-true (and_value left p) rs h) (and_is_decided left) refl e
   where
-    open_yet : Behind left rs → (o : Option Plain) → r ≡ o → option_and_then (λ p. conjunction (and_value left p) rs) o ≡ Some (boolean true) → (left ≡ boolean true) × All IsTrueResult (r ∷ rs)
+    open_yet : Behind left rs → (o : Option Plain) → r ≡ o → option_and_then (λ p. conjunction (and_value left p) rs) o ≡ Some (boolean true)
+        → (left ≡ boolean true) × All IsTrueResult (r ∷ rs)
     open_yet behind None is h = absurd (cc)
     open_yet behind (Some p) is h =
         let both = behind p h in
         let parts = both-true left p both.0 in
         (parts.0, All-cons IsTrueResult r rs (is ∙ ap Some parts.1) both.1)
 
-    by : Behind left rs → (b : Bool) → and_is_decided left ≡ b → (if b then Some left else option_and_then (λ p. conjunction (and_value left p) rs) r) ≡ Some (boolean true) → (left ≡ boolean true) × All IsTrueResult (r ∷ rs)
+    by : Behind left rs → (b : Bool) → and_is_decided left ≡ b
+        → (if b then Some left else option_and_then (λ p. conjunction (and_value left p) rs) r) ≡ Some (boolean true)
+        → (left ≡ boolean true) × All IsTrueResult (r ∷ rs)
     by behind true decided h =
         let same : left ≡ boolean true = cc in
         let turned : true ≡ false = sym decided ∙ ap and_is_decided same in

@@ -1,5 +1,6 @@
 -- A decided dock is not true.
-use Rattle.std.proofs.Common.{◌≡◌, ◌<◌, ℕ, zero, suc, Bool, true, false, not, ◌&&◌, ◌||◌, refl, List, [], ◌∷◌, length, Option, None, Some, unwrap_or, cond, nat_eq, All, ap, sym, ◌∙◌, subst, arith}
+use Rattle.std.proofs.Common.{◌≡◌, ◌<◌, ℕ, zero, suc, Bool, true, false, not, ◌&&◌, ◌||◌, refl, List, [], ◌∷◌, length, Option, None}
+use Rattle.std.proofs.Common.{Some, unwrap_or, cond, nat_eq, All, ap, sym, ◌∙◌, subst, arith}
 use Rattle.std.specs.List.{filter_map, list_any, cons_option}
 use Rattle.std.specs.Option.{option_and_then, option_map_or}
 use Rattle.std.proofs.lemmas.Bool.{eqb-true}
@@ -27,12 +28,14 @@ use Rattle.dock_match.proofs.TestLemmas.{IsSide, conjunct-value}
 -- ---- conjuncts
 
 -- where each tree has P, no test of one is decided against
-none-decided : (F : Tree → Option Test) (D : Test → Bool) (P : Tree → Type 0) → ((t : Tree) (test : Test) → F t ≡ Some test → D test ≡ true → P t → ⊥)
+none-decided : (F : Tree → Option Test) (D : Test → Bool) (P : Tree → Type 0)
+    → ((t : Tree) (test : Test) → F t ≡ Some test → D test ≡ true → P t → ⊥)
     → (ts : List Tree) → list_any D (filter_map F ts) ≡ true → All P ts → ⊥
 none-decided F D P never [] e h = cc
 none-decided F D P never (t ∷ ts) e h = by (λ k. none-decided F D P never ts k (All-tail P t ts h)) (F t) refl e
   where
-    among : (list_any D (filter_map F ts) ≡ true → ⊥) → (test : Test) → F t ≡ Some test → (b : Bool) → D test ≡ b → (b || list_any D (filter_map F ts)) ≡ true → ⊥
+    among : (list_any D (filter_map F ts) ≡ true → ⊥) → (test : Test) → F t ≡ Some test → (b : Bool) → D test ≡ b
+        → (b || list_any D (filter_map F ts)) ≡ true → ⊥
     among behind test is true decided k = never t test is decided (h 0 t (omega arith))
     among behind test is false decided k = behind k
 
@@ -54,7 +57,8 @@ true-is (ad_at place) e = absurd (cc)
 
 module _ (w : PlainWorld) (p : AdPlace) (ls : List (List ℕ)) (other : List Frame) (g : ℕ) (side : IsSide w p (frames_of_ad w p.ad) ls other g) where
   -- a true conjunct has no test that is decided against
-  not-decided : (n : ℕ) (t : Tree) (test : Test) → test_of (frames_of_ad w p.ad) p.frame ls t ≡ Some test → is_decided test other g ≡ true → IsTrueAt (value_at (suc n) w) w p t → ⊥
+  not-decided : (n : ℕ) (t : Tree) (test : Test) → test_of (frames_of_ad w p.ad) p.frame ls t ≡ Some test → is_decided test other g ≡ true
+      → IsTrueAt (value_at (suc n) w) w p t → ⊥
   not-decided n t test is decided holds = by (test_value test other g) refl decided
     where
       by : (o : Option Plain) → test_value test other g ≡ o → option_map_or (λ value. not (is_true value)) o false ≡ true → ⊥
@@ -69,7 +73,8 @@ module _ (w : PlainWorld) (p : AdPlace) (ls : List (List ℕ)) (other : List Fra
   true-value None e = absurd (cc)
   true-value (Some v) e = ap Some (true-is v e)
 
-  pub attribute-value : (n k : ℕ) (t : Tree) → expr_at (frames_of_ad w p.ad) p.frame k ≡ Some t → value_at (suc n) w (attribute_of p k) ≡ value_with n w p t
+  pub attribute-value : (n k : ℕ) (t : Tree) → expr_at (frames_of_ad w p.ad) p.frame k ≡ Some t
+      → value_at (suc n) w (attribute_of p k) ≡ value_with n w p t
   unfolding value_at
   attribute-value n k t is = ap (option_and_then (value_by (value_at n w) w p)) is
 
@@ -78,16 +83,19 @@ module _ (w : PlainWorld) (p : AdPlace) (ls : List (List ℕ)) (other : List Fra
   not-met ruled met = by (requirement_of (frames_of_ad w p.ad) p.frame) ruled met
     where
       by_expr : (k : ℕ) (o : Option Tree) → expr_at (frames_of_ad w p.ad) p.frame k ≡ o
-          → list_any (λ test. is_decided test other g) (option_map_or (λ t. filter_map (test_of (frames_of_ad w p.ad) p.frame ls) (conjuncts t)) o []) ≡ true
+          → list_any (λ test. is_decided test other g) (option_map_or (λ t. filter_map (test_of (frames_of_ad w p.ad) p.frame ls) (conjuncts t)) o [])
+          ≡ true
           → is_true (evaluation_at w (attribute_of p k)) ≡ true → ⊥
       by_expr k None is h holds = cc
       by_expr k (Some t) is h holds =
           let whole : value_with 23 w p t ≡ Some (boolean true) = sym (attribute-value 23 k t is) ∙ true-value (value_at 24 w (attribute_of p k)) holds in
-          none-decided (test_of (frames_of_ad w p.ad) p.frame ls) (λ test. is_decided test other g) (IsTrueAt (value_at 23 w) w p) (not-decided 22) (conjuncts t) h
+          none-decided (test_of (frames_of_ad w p.ad) p.frame ls) (λ test. is_decided test other g) (IsTrueAt (value_at 23 w) w p) (not-decided 22)
+          (conjuncts t) h
           (conjuncts-true (value_at 23 w) w p t whole)
 
       by : (o : Option ℕ)
-          → list_any (λ test. is_decided test other g) (option_map_or (λ t. filter_map (test_of (frames_of_ad w p.ad) p.frame ls) (conjuncts t)) (option_and_then (λ k. expr_at (frames_of_ad w p.ad) p.frame k) o) []) ≡ true
+          → list_any (λ test. is_decided test other g) (option_map_or (λ t. filter_map (test_of (frames_of_ad w p.ad) p.frame ls) (conjuncts t))
+          (option_and_then (λ k. expr_at (frames_of_ad w p.ad) p.frame k) o) []) ≡ true
           → option_map_or (λ k. is_true (evaluation_at w (attribute_of p k))) o false ≡ true → ⊥
       by None h holds = cc
       by (Some k) h holds = by_expr k (expr_at (frames_of_ad w p.ad) p.frame k) refl h holds
@@ -106,7 +114,9 @@ module _ (w : PlainWorld) (some : 0 < length w.docked) where
   request-sees = record {
     own = λ x. finds-enclosed w (request_side w) x;
     root = λ x. finds-alone w (record { ad = 0; frame = 0 }) x;
-    beyond = λ x. subst (λ (b : Bool). Finds w (first_found w x (enclosing_any w (cond b None (Some (resource_side w))))) (enclosed_expr (last_ad w) 0 x)) (sym there) (finds-enclosed w (resource_side w) x);
+    beyond =
+        λ x. subst (λ (b : Bool). Finds w (first_found w x (enclosing_any w (cond b None (Some (resource_side w))))) (enclosed_expr (last_ad w) 0 x))
+        (sym there) (finds-enclosed w (resource_side w) x);
     unlabelled = λ x. unlabelled w x 1 w.ports w.docked;
   }
 
@@ -128,9 +138,12 @@ module _ (w : PlainWorld) (some : 0 < length w.docked) where
 
   -- a decided dock is not true
   pub not-docked : is_last_decided w ≡ true → is_docked w ≡ false
-  not-docked decided = by (rules_out w.request (request_side w).frame (labels_of w.ports) (last_ad w) 0) (rules_out (last_ad w) 0 [] w.request (request_side w).frame) (meets_requirement w (request_side w)) (meets_requirement w (resource_side w)) refl refl refl refl decided
+  not-docked decided =
+      by (rules_out w.request (request_side w).frame (labels_of w.ports) (last_ad w) 0) (rules_out (last_ad w) 0 [] w.request (request_side w).frame)
+      (meets_requirement w (request_side w)) (meets_requirement w (resource_side w)) refl refl refl refl decided
     where
-      by : (a b c d : Bool) → rules_out w.request (request_side w).frame (labels_of w.ports) (last_ad w) 0 ≡ a → rules_out (last_ad w) 0 [] w.request (request_side w).frame ≡ b
+      by : (a b c d : Bool) → rules_out w.request (request_side w).frame (labels_of w.ports) (last_ad w) 0 ≡ a
+          → rules_out (last_ad w) 0 [] w.request (request_side w).frame ≡ b
           → meets_requirement w (request_side w) ≡ c → meets_requirement w (resource_side w) ≡ d → (a || b) ≡ true → (c && d) ≡ false
       by a b false d ruled others met meets e = refl
       by a b true false ruled others met meets e = refl

@@ -1,5 +1,7 @@
 -- Docks with resources that are given by their slots.
-use Rattle.std.proofs.Common.{◌≡◌, ◌<◌, ◌≤◌, ◌+◌, ◌-◌, ℕ, zero, suc, Bool, true, false, not, cond, refl, List, [], ◌∷◌, ◌++◌, take, get_or, length, max, slice_get, Option, None, Some, option_map, unwrap_or, Contains, All, if◌then◌else◌, ap, sym, ◌∙◌, subst, arith}
+use Rattle.std.proofs.Common.{◌≡◌, ◌<◌, ◌≤◌, ◌+◌, ◌-◌, ℕ, zero, suc, Bool, true, false, not, cond, refl, List, [], ◌∷◌}
+use Rattle.std.proofs.Common.{◌++◌, take, get_or, length, max, slice_get, Option, None, Some, option_map, unwrap_or, Contains, All, if◌then◌else◌, ap}
+use Rattle.std.proofs.Common.{sym, ◌∙◌, subst, arith}
 use Rattle.std.specs.List.{position_or_len}
 use Rattle.std.specs.Option.{option_map_or}
 use Rattle.std.proofs.lemmas.Bool.{eq-eqb, eqb-true}
@@ -49,25 +51,31 @@ ad-looked stock slot fs here looked =
 
 module _ (moment : ℕ) (stock : Stock) (request : Request) where
   -- the world with the resource in the next slot docked
-  pub dock-next : (slots : List ℕ) (i d : ℕ) (w v : PlainWorld) (fs : List Frame) → i < length slots → w ≡ slots_world moment stock request (take i slots)
+  pub dock-next : (slots : List ℕ) (i d : ℕ) (w v : PlainWorld) (fs : List Frame) → i < length slots
+      → w ≡ slots_world moment stock request (take i slots)
       → fs ≡ ad_in stock (get_or slots i d) → v ≡ with_docked w fs → v ≡ slots_world moment stock request (take (i + 1) slots)
   dock-next slots i d w v fs within so_far ad docked =
       docked
       ∙ ap (λ (u : PlainWorld). with_docked u fs) so_far
       ∙ ap (λ (a : List Frame). with_docked (slots_world moment stock request (take i slots)) a) ad
-      ∙ ap (λ (ads : List (List Frame)). record { moment = moment; request = ad_frames request.ad; ports = request.ports; docked = ads }) (sym (map_more (ad_in stock) slots i d within))
+      ∙ ap (λ (ads : List (List Frame)). record { moment = moment; request = ad_frames request.ad; ports = request.ports; docked = ads })
+      (sym (map_more (ad_in stock) slots i d within))
 
   -- so many are docked
-  pub docked-few : (slots : List ℕ) (i : ℕ) (w : PlainWorld) → w ≡ slots_world moment stock request (take i slots) → i < length slots → length slots ≤ 8 → length w.docked < 8
+  pub docked-few : (slots : List ℕ) (i : ℕ) (w : PlainWorld) → w ≡ slots_world moment stock request (take i slots) → i < length slots
+      → length slots ≤ 8 → length w.docked < 8
   docked-few slots i w so_far within few =
-      let long : length w.docked ≡ i = ap (λ (u : PlainWorld). length u.docked) so_far ∙ length-map (take i slots) (ad_in stock) ∙ length-take-le i slots (omega (arith, within)) in
+      let long : length w.docked ≡ i =
+      ap (λ (u : PlainWorld). length u.docked) so_far ∙ length-map (take i slots) (ad_in stock) ∙ length-take-le i slots (omega (arith, within)) in
       omega (arith, long, within, few)
 
   -- one more may be docked to those that stand before the last
-  pub room-for-last : (slots : List ℕ) (w : PlainWorld) → length slots ≤ 8 → 0 < length slots → w ≡ slots_world moment stock request (take (length slots - 1) slots) → length w.docked < 8
+  pub room-for-last : (slots : List ℕ) (w : PlainWorld) → length slots ≤ 8 → 0 < length slots
+      → w ≡ slots_world moment stock request (take (length slots - 1) slots) → length w.docked < 8
   room-for-last slots w few some so_far = docked-few slots (length slots - 1) w so_far (omega (arith, some)) few
 
-  pub dock-all : (slots : List ℕ) (i : ℕ) (w : PlainWorld) → length slots ≤ i → w ≡ slots_world moment stock request (take i slots) → w ≡ slots_world moment stock request slots
+  pub dock-all : (slots : List ℕ) (i : ℕ) (w : PlainWorld) → length slots ≤ i → w ≡ slots_world moment stock request (take i slots)
+      → w ≡ slots_world moment stock request slots
   dock-all slots i w past so_far = so_far ∙ ap (slots_world moment stock request) (take_all i slots past)
 
 -- ---- the last dock
@@ -88,7 +96,8 @@ last-docked w fs =
     by (x ∷ xs) = ap suc (by xs)
 
 module _ (moment : ℕ) (stock : Stock) (request : Request) (slots : List ℕ) (some : 0 < length slots) (last : ℕ) (is : last ≡ length slots - 1)
-    (w v : PlainWorld) (fs : List Frame) (before : w ≡ slots_world moment stock request (take last slots)) (ad : fs ≡ ad_in stock (get_or slots last 0)) (docked : v ≡ with_docked w fs) where
+    (w v : PlainWorld) (fs : List Frame) (before : w ≡ slots_world moment stock request (take last slots)) (ad : fs ≡ ad_in stock (get_or slots last 0))
+    (docked : v ≡ with_docked w fs) where
   pub pair-world : v ≡ slots_world moment stock request slots
   pair-world =
       dock-next moment stock request slots last 0 w v fs (omega (arith, some, is)) before ad docked
@@ -96,22 +105,27 @@ module _ (moment : ℕ) (stock : Stock) (request : Request) (slots : List ℕ) (
 
   -- what depends on the sides of the dock is the same in that world
   pair-seen : {A : Type 0} (seen : List Frame → ℕ → List (List ℕ) → List Frame → A) (at : AdPlace) → at ≡ request_side v
-      → seen (ad_frames request.ad) at.frame (labels_of request.ports) fs ≡ seen (ad_frames request.ad) (request_side (slots_world moment stock request slots)).frame (labels_of request.ports) (last_ad (slots_world moment stock request slots))
+      → seen (ad_frames request.ad) at.frame (labels_of request.ports) fs
+      ≡ seen (ad_frames request.ad) (request_side (slots_world moment stock request slots)).frame (labels_of request.ports)
+      (last_ad (slots_world moment stock request slots))
   pair-seen seen at side =
       let world = pair-world in
       ap (λ (p : AdPlace). seen (ad_frames request.ad) p.frame (labels_of request.ports) fs) side
       ∙ ap (λ (u : PlainWorld). seen (ad_frames request.ad) (request_side u).frame (labels_of request.ports) fs) world
-      ∙ ap (seen (ad_frames request.ad) (request_side (slots_world moment stock request slots)).frame (labels_of request.ports)) (sym (sym (ap last_ad world) ∙ ap last_ad docked ∙ last-docked w fs))
+      ∙ ap (seen (ad_frames request.ad) (request_side (slots_world moment stock request slots)).frame (labels_of request.ports))
+      (sym (sym (ap last_ad world) ∙ ap last_ad docked ∙ last-docked w fs))
 
   -- the dock is decided as the contract of the tests says it, and the same sides are open
-  pub pair-decided : (at : AdPlace) → at ≡ request_side v → is_dock_decided (ad_frames request.ad) at.frame (labels_of request.ports) fs ≡ is_last_decided (slots_world moment stock request slots)
+  pub pair-decided : (at : AdPlace) → at ≡ request_side v
+      → is_dock_decided (ad_frames request.ad) at.frame (labels_of request.ports) fs ≡ is_last_decided (slots_world moment stock request slots)
   pair-decided = pair-seen is_dock_decided
 
   pub pair-open : (at : AdPlace) → at ≡ request_side v → open_sides (ad_frames request.ad) at.frame (labels_of request.ports) fs ≡ last_open v
   pair-open at side = pair-seen open_sides at side ∙ ap last_open (sym pair-world)
 
 -- a decided dock of resources that are given by their slots isn't true
-pub none-docked : (moment : ℕ) (stock : Stock) (request : Request) (slots : List ℕ) → 0 < length slots → is_last_decided (slots_world moment stock request slots) ≡ true → is_docked (slots_world moment stock request slots) ≡ false
+pub none-docked : (moment : ℕ) (stock : Stock) (request : Request) (slots : List ℕ) → 0 < length slots
+    → is_last_decided (slots_world moment stock request slots) ≡ true → is_docked (slots_world moment stock request slots) ≡ false
 none-docked moment stock request slots some decided =
     let long = length-map slots (ad_in stock) in
     not-docked (slots_world moment stock request slots) (omega (arith, some, long)) decided

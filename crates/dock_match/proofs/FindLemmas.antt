@@ -1,5 +1,6 @@
 -- What a name finds in a world, beside the expression that it has in the frames of an ad.
-use Rattle.std.proofs.Common.{◌≡◌, ℕ, suc, Bool, true, false, refl, List, [], ◌∷◌, map, Option, None, Some, IsSome, option_map, cond, ◌||◌, bytes_eq, ap, sym, ◌∙◌}
+use Rattle.std.proofs.Common.{◌≡◌, ℕ, suc, Bool, true, false, refl, List, [], ◌∷◌, map, Option, None, Some, IsSome, option_map, cond, ◌||◌}
+use Rattle.std.proofs.Common.{bytes_eq, ap, sym, ◌∙◌}
 use Rattle.std.specs.Option.{option_and_then, option_or}
 use Rattle.std.proofs.lemmas.Slice.Eq.{bytes_eq-Decides}
 use Rattle.pool_text.specs.declared.language.AdPlace.{AdPlace}
@@ -35,9 +36,14 @@ pub finds-here : (w : PlainWorld) (p : AdPlace) (x : List ℕ) → Finds w (foun
 finds-here w p x = by (attribute_named (frames_of_ad w p.ad) p.frame x) refl
   where
     by : (o : Option ℕ) → attribute_named (frames_of_ad w p.ad) p.frame x ≡ o
-        → Finds w (found_attribute (option_map (λ k. record { ad = p.ad; frame = p.frame; attr = k }) o)) (option_and_then (λ k. expr_at (frames_of_ad w p.ad) p.frame k) o)
+        → Finds w (found_attribute (option_map (λ k. record { ad = p.ad; frame = p.frame; attr = k }) o))
+        (option_and_then (λ k. expr_at (frames_of_ad w p.ad) p.frame k) o)
     by None e = refl
-    by (Some k) e = (refl, attribute_in-there w p x (record { ad = p.ad; frame = p.frame; attr = k }) (ap (option_map {U = Pos} (λ k. record { ad = p.ad; frame = p.frame; attr = k })) e))
+    by (Some k) e = (
+      refl,
+      attribute_in-there w p x (record { ad = p.ad; frame = p.frame; attr = k })
+          (ap (option_map {U = Pos} (λ k. record { ad = p.ad; frame = p.frame; attr = k })) e),
+    )
 
 finds-either : (w : PlainWorld) (a b : Found) (t u : Option Tree) → Finds w a t → Finds w b u → Finds w (or_else a b) (option_or t u)
 finds-either w Found.Nothing b None u h k = k
@@ -46,10 +52,12 @@ finds-either w (Found.Attr s) b None u h k = absurd (cc (h.1))
 finds-either w (Found.Attr s) b (Some t) u h k = h
 finds-either w (Found.Place p) b t u h k = absurd h
 
-finds-first : (w : PlainWorld) (k : ℕ) (x : List ℕ) (fs : List ℕ) → Finds w (first_found w x (map (λ f. in_frame (record { ad = k; frame = f })) fs)) (first_expr (frames_of_ad w k) x fs)
+finds-first : (w : PlainWorld) (k : ℕ) (x : List ℕ) (fs : List ℕ)
+    → Finds w (first_found w x (map (λ f. in_frame (record { ad = k; frame = f })) fs)) (first_expr (frames_of_ad w k) x fs)
 finds-first w k x [] = refl
 finds-first w k x (f ∷ fs) =
-    finds-either w (found_at w x (in_frame (record { ad = k; frame = f }))) (first_found w x (map (λ f. in_frame (record { ad = k; frame = f })) fs)) (expr_named (frames_of_ad w k) f x) (first_expr (frames_of_ad w k) x fs)
+    finds-either w (found_at w x (in_frame (record { ad = k; frame = f }))) (first_found w x (map (λ f. in_frame (record { ad = k; frame = f })) fs))
+    (expr_named (frames_of_ad w k) f x) (first_expr (frames_of_ad w k) x fs)
     (finds-here w (record { ad = k; frame = f }) x) (finds-first w k x fs)
 
 pub finds-enclosed : (w : PlainWorld) (p : AdPlace) (x : List ℕ) → Finds w (first_found w x (enclosing w p)) (enclosed_expr (frames_of_ad w p.ad) p.frame x)
@@ -59,7 +67,8 @@ finds-enclosed w p x = finds-first w p.ad x (enclosing_frames (frames_of_ad w p.
 pub finds-alone : (w : PlainWorld) (p : AdPlace) (x : List ℕ) → Finds w (first_found w x (in_frame p ∷ [])) (expr_named (frames_of_ad w p.ad) p.frame x)
 finds-alone w p x = by (found_at w x (in_frame p)) (finds-here w p x)
   where
-    by : (found : Found) → Finds w found (expr_named (frames_of_ad w p.ad) p.frame x) → Finds w (or_else found Found.Nothing) (expr_named (frames_of_ad w p.ad) p.frame x)
+    by : (found : Found) → Finds w found (expr_named (frames_of_ad w p.ad) p.frame x)
+        → Finds w (or_else found Found.Nothing) (expr_named (frames_of_ad w p.ad) p.frame x)
     by Found.Nothing h = h
     by (Found.Attr s) h = h
     by (Found.Place q) h = h
@@ -87,23 +96,27 @@ same_name-symm a b apart = by (bytes_eq (folded b) (folded a)) refl
         absurd (cc)
     by false e = e
 
-unlabelled-one : (x label : List ℕ) (k : ℕ) (rest : Found) → same_name label x ≡ false → or_else (cond (same_name x label) (Found.Place (record { ad = k; frame = 0 })) Found.Nothing) rest ≡ rest
+unlabelled-one : (x label : List ℕ) (k : ℕ) (rest : Found) → same_name label x ≡ false
+    → or_else (cond (same_name x label) (Found.Place (record { ad = k; frame = 0 })) Found.Nothing) rest ≡ rest
 unlabelled-one x label k rest apart = ap (λ b. or_else (cond b (Found.Place (record { ad = k; frame = 0 })) Found.Nothing) rest) (same_name-symm label x apart)
 
-pub unlabelled : (w : PlainWorld) (x : List ℕ) (k : ℕ) (ports : List Port) (docked : List (List Frame)) → has_name x (labels_of ports) ≡ false → first_found w x (labels_from k ports docked) ≡ Found.Nothing
+pub unlabelled : (w : PlainWorld) (x : List ℕ) (k : ℕ) (ports : List Port) (docked : List (List Frame)) → has_name x (labels_of ports) ≡ false
+    → first_found w x (labels_from k ports docked) ≡ Found.Nothing
 unlabelled w x k [] docked apart = refl
 unlabelled w x k (port ∷ ports) [] apart = refl
 unlabelled w x k (port ∷ ports) (ad ∷ docked) apart = by (λ e. unlabelled w x (suc k) ports docked e) (same_name port.label x) refl apart
   where
     by : (has_name x (labels_of ports) ≡ false → first_found w x (labels_from (suc k) ports docked) ≡ Found.Nothing)
-        → (a : Bool) → same_name port.label x ≡ a → (a || has_name x (labels_of ports)) ≡ false → first_found w x (labels_from k (port ∷ ports) (ad ∷ docked)) ≡ Found.Nothing
+        → (a : Bool) → same_name port.label x ≡ a → (a || has_name x (labels_of ports)) ≡ false
+        → first_found w x (labels_from k (port ∷ ports) (ad ∷ docked)) ≡ Found.Nothing
     by behind true e g = absurd (cc)
     by behind false e g = unlabelled-one x port.label k (first_found w x (labels_from (suc k) ports docked)) e ∙ behind g
 
 -- ---- values
 
 -- an attribute that counts as something has that value
-pub named-counted : (w : PlainWorld) (n : ℕ) (found : Found) (t : Option Tree) (v : Plain) → Finds w found t → counted t ≡ Some v → named (value_at (suc n) w) found ≡ Some v
+pub named-counted : (w : PlainWorld) (n : ℕ) (found : Found) (t : Option Tree) (v : Plain) → Finds w found t → counted t ≡ Some v
+    → named (value_at (suc n) w) found ≡ Some v
 unfolding value_at
 named-counted w n Found.Nothing None v h e = e
 named-counted w n Found.Nothing (Some t) v h e = absurd (cc)

@@ -1,5 +1,6 @@
 -- A side that is met is true.
-use Rattle.std.proofs.Common.{◌≡◌, ◌<◌, ℕ, suc, Bool, true, false, ◌&&◌, ◌||◌, length, option_map, refl, List, [], ◌∷◌, Option, None, Some, unwrap_or, ap, sym, ◌∙◌}
+use Rattle.std.proofs.Common.{◌≡◌, ◌<◌, ℕ, suc, Bool, true, false, ◌&&◌, ◌||◌, length, option_map, refl, List, [], ◌∷◌, Option, None}
+use Rattle.std.proofs.Common.{Some, unwrap_or, ap, sym, ◌∙◌}
 use Rattle.std.specs.List.{list_all}
 use Rattle.std.specs.Option.{option_and_then, option_map_or}
 use Rattle.std.proofs.lemmas.List.Folds.{list_all-append}
@@ -53,7 +54,8 @@ module _ (at : Pos → Option Plain) (w : PlainWorld) (p : AdPlace) (M : Tree �
     chain-holds : (ts : Trees) → list_all M (conjuncts_of_all ts) ≡ true → conjunction (boolean true) (results_by at w p ts) ≡ Some (boolean true)
     chain-holds none e = refl
     chain-holds (more t ts) e =
-        let both = both-hold (list_all M (conjuncts t)) (list_all M (conjuncts_of_all ts)) (sym (list_all-append M (conjuncts t) (conjuncts_of_all ts)) ∙ e) in
+        let both =
+        both-hold (list_all M (conjuncts t)) (list_all M (conjuncts_of_all ts)) (sym (list_all-append M (conjuncts t) (conjuncts_of_all ts)) ∙ e) in
         ap (λ r. conjunction (boolean true) (r ∷ results_by at w p ts)) (all-hold t both.0) ∙ chain-holds ts both.1
 
 module _ (w : PlainWorld) (p : AdPlace) (ls : List (List ℕ)) (other : List Frame) (g : ℕ) (side : IsSide w p (frames_of_ad w p.ad) ls other g) where
@@ -61,11 +63,13 @@ module _ (w : PlainWorld) (p : AdPlace) (ls : List (List ℕ)) (other : List Fra
   test-holds : (n : ℕ) (t : Tree) → is_met_test (frames_of_ad w p.ad) p.frame ls other g t ≡ true → IsTrueAt (value_at (suc n) w) w p t
   test-holds n t met = by (test_of (frames_of_ad w p.ad) p.frame ls t) refl met
     where
-      by_value : (test : Test) → test_of (frames_of_ad w p.ad) p.frame ls t ≡ Some test → (o : Option Plain) → test_value test other g ≡ o → option_map_or is_true o false ≡ true → IsTrueAt (value_at (suc n) w) w p t
+      by_value : (test : Test) → test_of (frames_of_ad w p.ad) p.frame ls t ≡ Some test → (o : Option Plain) → test_value test other g ≡ o
+          → option_map_or is_true o false ≡ true → IsTrueAt (value_at (suc n) w) w p t
       by_value test is None has h = absurd (cc)
       by_value test is (Some v) has h = conjunct-value w n p (frames_of_ad w p.ad) ls other g side t test v is has ∙ ap Some (true-is v h)
 
-      by : (o : Option Test) → test_of (frames_of_ad w p.ad) p.frame ls t ≡ o → option_map_or (λ test. is_met test other g) o false ≡ true → IsTrueAt (value_at (suc n) w) w p t
+      by : (o : Option Test) → test_of (frames_of_ad w p.ad) p.frame ls t ≡ o → option_map_or (λ test. is_met test other g) o false ≡ true
+          → IsTrueAt (value_at (suc n) w) w p t
       by None is h = absurd (cc)
       by (Some test) is h = by_value test is (test_value test other g) refl h
 
@@ -79,9 +83,12 @@ module _ (w : PlainWorld) (p : AdPlace) (ls : List (List ℕ)) (other : List Fra
       by_expr k None is h = absurd (cc)
       by_expr k (Some t) is h =
           ap (λ (v : Option Plain). is_true (unwrap_or v error))
-          (attribute-value w p ls other g side 23 k t is ∙ all-hold (value_at 23 w) w p (is_met_test (frames_of_ad w p.ad) p.frame ls other g) (test-holds 22) t h)
+          (attribute-value w p ls other g side 23 k t is ∙ all-hold (value_at 23 w) w p (is_met_test (frames_of_ad w p.ad) p.frame ls other g) (test-holds
+          22) t h)
 
-      by : (o : Option ℕ) → option_map_or (λ t. list_all (is_met_test (frames_of_ad w p.ad) p.frame ls other g) (conjuncts t)) (option_and_then (λ k. expr_at (frames_of_ad w p.ad) p.frame k) o) false ≡ true
+      by : (o : Option ℕ)
+          → option_map_or (λ t. list_all (is_met_test (frames_of_ad w p.ad) p.frame ls other g) (conjuncts t))
+          (option_and_then (λ k. expr_at (frames_of_ad w p.ad) p.frame k) o) false ≡ true
           → option_map_or (λ k. is_true (evaluation_at w (attribute_of p k))) o false ≡ true
       by None h = absurd (cc)
       by (Some k) h = by_expr k (expr_at (frames_of_ad w p.ad) p.frame k) refl h
@@ -106,8 +113,10 @@ none-open false false false false e = absurd (cc)
 abbrev pub AreMet : OpenSides → Bool → Bool → Type 0
 AreMet sides met other_met = (sides.request ≡ false → met ≡ true) × (sides.resource ≡ false → other_met ≡ true)
 
-sides-are : (sides : OpenSides) (request resource : Bool) → Some (record { request = request; resource = resource }) ≡ Some sides → (request ≡ sides.request) × (resource ≡ sides.resource)
-sides-are sides request resource e = (ap (λ o. option_map_or (λ (s : OpenSides). s.request) o false) e, ap (λ o. option_map_or (λ (s : OpenSides). s.resource) o false) e)
+sides-are : (sides : OpenSides) (request resource : Bool) → Some (record { request = request; resource = resource }) ≡ Some sides
+    → (request ≡ sides.request) × (resource ≡ sides.resource)
+sides-are sides request resource e =
+    (ap (λ o. option_map_or (λ (s : OpenSides). s.request) o false) e, ap (λ o. option_map_or (λ (s : OpenSides). s.resource) o false) e)
 
 some-open : (a b c d : Bool) (sides : OpenSides) → open_by a b c d ≡ Some sides → ((a || c) ≡ false) × AreMet sides b d
 some-open true b c d sides e = absurd (cc)
@@ -123,10 +132,13 @@ module _ (request : List Frame) (f : ℕ) (labels : List (List ℕ)) (ad : List 
   none-undecided = none-open (rules_out request f labels ad 0) (is_side_met request f labels ad 0) (rules_out ad 0 [] request f) (is_side_met ad 0 [] request f)
 
   pub some-undecided : (sides : OpenSides) → open_sides request f labels ad ≡ Some sides → is_dock_decided request f labels ad ≡ false
-  some-undecided sides e = (some-open (rules_out request f labels ad 0) (is_side_met request f labels ad 0) (rules_out ad 0 [] request f) (is_side_met ad 0 [] request f) sides e).0
+  some-undecided sides e =
+      (some-open (rules_out request f labels ad 0) (is_side_met request f labels ad 0) (rules_out ad 0 [] request f) (is_side_met ad 0 [] request f) sides e).0
 
-  sides-met : (sides : OpenSides) → open_sides request f labels ad ≡ Some sides → AreMet sides (is_side_met request f labels ad 0) (is_side_met ad 0 [] request f)
-  sides-met sides e = (some-open (rules_out request f labels ad 0) (is_side_met request f labels ad 0) (rules_out ad 0 [] request f) (is_side_met ad 0 [] request f) sides e).1
+  sides-met : (sides : OpenSides) → open_sides request f labels ad ≡ Some sides
+      → AreMet sides (is_side_met request f labels ad 0) (is_side_met ad 0 [] request f)
+  sides-met sides e =
+      (some-open (rules_out request f labels ad 0) (is_side_met request f labels ad 0) (rules_out ad 0 [] request f) (is_side_met ad 0 [] request f) sides e).1
 
 module _ (w : PlainWorld) (some : 0 < length w.docked) where
   pub request-holds : is_side_met w.request (request_side w).frame (labels_of w.ports) (last_ad w) 0 ≡ true → meets_requirement w (request_side w) ≡ true

@@ -1,5 +1,6 @@
 -- Ads that are looked up among small ones are small, and so are worlds of small ads.
-use Rattle.std.proofs.Common.{◌≡◌, ◌==◌, ℕ, zero, suc, refl, List, [], ◌∷◌, Option, None, Some, option_map, slice_get, map, IfSome, get_or, ap, sym, subst, arith, zero-le}
+use Rattle.std.proofs.Common.{◌≡◌, ◌==◌, ℕ, zero, suc, refl, List, [], ◌∷◌, Option, None, Some, option_map, slice_get, map, IfSome, get_or}
+use Rattle.std.proofs.Common.{ap, sym, subst, arith, zero-le}
 use Rattle.std.specs.List.{position_or_len}
 use Rattle.std.specs.Option.{option_map_or}
 use Rattle.std.proofs.lemmas.List.Elements.{All-cons, All-map, All-tail}
@@ -28,7 +29,8 @@ found-small (a ∷ ads) (suc i) fs small is = found-small ads i fs (All-tail (λ
 pub in-small : (stock : Stock) (slot : ℕ) → AreSmallAds stock.ads → IsSmall (ad_in stock slot)
 in-small stock slot small = by (slice_get stock.ads (position_or_len (λ s. s == slot) stock.slots)) refl
   where
-    by : (o : Option Advert) → slice_get stock.ads (position_or_len (λ s. s == slot) stock.slots) ≡ o → IsSmall (option_map_or (λ (a : Advert). a.ad) o [])
+    by : (o : Option Advert) → slice_get stock.ads (position_or_len (λ s. s == slot) stock.slots) ≡ o
+        → IsSmall (option_map_or (λ (a : Advert). a.ad) o [])
     by None is = zero-le
     by (Some a) is = found-small stock.ads (position_or_len (λ s. s == slot) stock.slots) a.ad small (ap (option_map (λ (b : Advert). b.ad)) is)
 
@@ -43,7 +45,8 @@ slots-small moment stock request slots w is small_request small_ads =
     (All-map IsSmall (ad_in stock) slots (λ i d within. in-small stock (get_or slots i d) small_ads)))
 
 -- so is the world in which a small ad is docked to a small request
-pub pair-small : (moment : ℕ) (request ad : List Frame) (w : PlainWorld) → w ≡ pair_world moment request ad → IsSmall request → IsSmall ad → AreSmall w
+pub pair-small : (moment : ℕ) (request ad : List Frame) (w : PlainWorld) → w ≡ pair_world moment request ad → IsSmall request → IsSmall ad
+    → AreSmall w
 pair-small moment request ad w is small_request small_ad =
     subst AreSmall (sym is) (All-cons IsSmall request (ad ∷ []) small_request (All-cons IsSmall ad [] small_ad (λ i d within. absurd (omega arith))))
 

@@ -54,38 +54,48 @@ option_map-itself : {A : Type 0} (o : Option A) → option_map (λ a. a) o ≡ o
 option_map-itself None = refl
 option_map-itself (Some a) = refl
 
-module _ (w : PlainWorld) (n : ℕ) (p : AdPlace) (fs : List Frame) (ls : List (List ℕ)) (other : List Frame) (g : ℕ) (side : IsSide w p fs ls other g) where
+module _ (w : PlainWorld) (n : ℕ) (p : AdPlace) (fs : List Frame) (ls : List (List ℕ)) (other : List Frame) (g : ℕ)
+    (side : IsSide w p fs ls other g) where
   -- ---- what stands on a side of a test
 
-  bare-own : (x : List ℕ) (t : Tree) (v : Plain) → enclosed_expr fs p.frame x ≡ Some t → counted (enclosed_expr fs p.frame x) ≡ Some v → named (value_at (suc n) w) (find w p Scope.Bare x) ≡ Some v
+  bare-own : (x : List ℕ) (t : Tree) (v : Plain) → enclosed_expr fs p.frame x ≡ Some t → counted (enclosed_expr fs p.frame x) ≡ Some v
+      → named (value_at (suc n) w) (find w p Scope.Bare x) ≡ Some v
   bare-own x t v there counts =
-      ap (named (value_at (suc n) w)) (in_own w x (enclosing w p) (labels w p.ad) (targets w p.ad) (finds-something w (first_found w x (enclosing w p)) (enclosed_expr fs p.frame x) t (side.own x) there))
+      ap (named (value_at (suc n) w)) (in_own w x (enclosing w p) (labels w p.ad) (targets w p.ad)
+      (finds-something w (first_found w x (enclosing w p)) (enclosed_expr fs p.frame x) t (side.own x) there))
       ∙ named-counted w n (first_found w x (enclosing w p)) (enclosed_expr fs p.frame x) v (side.own x) counts
 
-  bare-beyond : (x : List ℕ) (v : Plain) → enclosed_expr fs p.frame x ≡ None → has_name x ls ≡ false → counted (enclosed_expr other g x) ≡ Some v → named (value_at (suc n) w) (find w p Scope.Bare x) ≡ Some v
+  bare-beyond : (x : List ℕ) (v : Plain) → enclosed_expr fs p.frame x ≡ None → has_name x ls ≡ false → counted (enclosed_expr other g x) ≡ Some v
+      → named (value_at (suc n) w) (find w p Scope.Bare x) ≡ Some v
   bare-beyond x v missing apart counts =
-      ap (named (value_at (suc n) w)) (in_beyond w x (enclosing w p) (labels w p.ad) (targets w p.ad) (finds-nothing w (first_found w x (enclosing w p)) (enclosed_expr fs p.frame x) (side.own x) missing) (side.unlabelled x apart))
+      ap (named (value_at (suc n) w)) (in_beyond w x (enclosing w p) (labels w p.ad) (targets w p.ad)
+      (finds-nothing w (first_found w x (enclosing w p)) (enclosed_expr fs p.frame x) (side.own x) missing) (side.unlabelled x apart))
       ∙ named-counted w n (first_found w x (targets w p.ad)) (enclosed_expr other g x) v (side.beyond x) counts
 
-  bare-constant : (x : List ℕ) (lit : Lit) → bare_side ls x (enclosed_expr fs p.frame x) ≡ constant lit → named (value_at (suc n) w) (find w p Scope.Bare x) ≡ Some (plain_of_lit lit)
+  bare-constant : (x : List ℕ) (lit : Lit) → bare_side ls x (enclosed_expr fs p.frame x) ≡ constant lit
+      → named (value_at (suc n) w) (find w p Scope.Bare x) ≡ Some (plain_of_lit lit)
   bare-constant x lit e = by (enclosed_expr fs p.frame x) refl e
     where
       unnamed : (b : Bool) → (if b then neither else asked_of x) ≡ constant lit → ⊥
       unnamed true h = cc
       unnamed false h = cc
 
-      by : (o : Option Tree) → enclosed_expr fs p.frame x ≡ o → bare_side ls x o ≡ constant lit → named (value_at (suc n) w) (find w p Scope.Bare x) ≡ Some (plain_of_lit lit)
+      by : (o : Option Tree) → enclosed_expr fs p.frame x ≡ o → bare_side ls x o ≡ constant lit
+          → named (value_at (suc n) w) (find w p Scope.Bare x) ≡ Some (plain_of_lit lit)
       by None is h = absurd (unnamed (has_name x ls) h)
       by (Some t) is h = bare-own x t (plain_of_lit lit) is (ap counted is ∙ own-counted (Some t) lit h)
 
-  bare-asked : (x y : List ℕ) (v : Plain) → bare_side ls y (enclosed_expr fs p.frame y) ≡ asked_of x → counted (enclosed_expr other g x) ≡ Some v → named (value_at (suc n) w) (find w p Scope.Bare y) ≡ Some v
+  bare-asked : (x y : List ℕ) (v : Plain) → bare_side ls y (enclosed_expr fs p.frame y) ≡ asked_of x → counted (enclosed_expr other g x) ≡ Some v
+      → named (value_at (suc n) w) (find w p Scope.Bare y) ≡ Some v
   bare-asked x y v e counts = by (enclosed_expr fs p.frame y) refl e
     where
-      beyond : enclosed_expr fs p.frame y ≡ None → (b : Bool) → has_name y ls ≡ b → (if b then neither else asked_of y) ≡ asked_of x → named (value_at (suc n) w) (find w p Scope.Bare y) ≡ Some v
+      beyond : enclosed_expr fs p.frame y ≡ None → (b : Bool) → has_name y ls ≡ b → (if b then neither else asked_of y) ≡ asked_of x
+          → named (value_at (suc n) w) (find w p Scope.Bare y) ≡ Some v
       beyond is true labelled h = absurd (cc)
       beyond is false apart h = let same : y ≡ x = cc in bare-beyond y v is apart (ap (λ z. counted (enclosed_expr other g z)) same ∙ counts)
 
-      by : (o : Option Tree) → enclosed_expr fs p.frame y ≡ o → bare_side ls y o ≡ asked_of x → named (value_at (suc n) w) (find w p Scope.Bare y) ≡ Some v
+      by : (o : Option Tree) → enclosed_expr fs p.frame y ≡ o → bare_side ls y o ≡ asked_of x
+          → named (value_at (suc n) w) (find w p Scope.Bare y) ≡ Some v
       by None is h = beyond is (has_name y ls) refl h
       by (Some t) is h = absurd (own-unnamed (Some t) x h)
 
@@ -93,7 +103,8 @@ module _ (w : PlainWorld) (n : ℕ) (p : AdPlace) (fs : List Frame) (ls : List (
   constant-value : (t : Tree) (lit : Lit) → side_of fs p.frame ls t ≡ constant lit → value_with (suc n) w p t ≡ Some (plain_of_lit lit)
   constant-value (node (literal l) ts) lit e = let same : l ≡ lit = cc in ap (λ x. Some (plain_of_lit x)) same
   constant-value (node (name Scope.Target x) ts) lit e = absurd (asked-constant x lit e)
-  constant-value (node (name Scope.My x) ts) lit e = named-counted w n (find w p Scope.My x) (expr_named fs 0 x) (plain_of_lit lit) (side.root x) (own-counted (expr_named fs 0 x) lit e)
+  constant-value (node (name Scope.My x) ts) lit e =
+      named-counted w n (find w p Scope.My x) (expr_named fs 0 x) (plain_of_lit lit) (side.root x) (own-counted (expr_named fs 0 x) lit e)
   constant-value (node (name Scope.Bare x) ts) lit e = bare-constant x lit e
   constant-value (node (unary op) ts) lit e = absurd (neither-constant lit e)
   constant-value (node (binary op) ts) lit e = absurd (neither-constant lit e)
@@ -107,7 +118,8 @@ module _ (w : PlainWorld) (n : ℕ) (p : AdPlace) (fs : List Frame) (ls : List (
   constant-value (frame f) lit e = absurd (neither-constant lit e)
 
   -- an attribute of the other side has the value of what it counts as
-  asked-value : (t : Tree) (x : List ℕ) (v : Plain) → side_of fs p.frame ls t ≡ asked_of x → counted (enclosed_expr other g x) ≡ Some v → value_with (suc n) w p t ≡ Some v
+  asked-value : (t : Tree) (x : List ℕ) (v : Plain) → side_of fs p.frame ls t ≡ asked_of x → counted (enclosed_expr other g x) ≡ Some v
+      → value_with (suc n) w p t ≡ Some v
   asked-value (node (literal l) ts) x v e counts = absurd (constant-asked l x e)
   asked-value (node (name Scope.Target y) ts) x v e counts =
       let same : y ≡ x = cc in
@@ -127,7 +139,8 @@ module _ (w : PlainWorld) (n : ℕ) (p : AdPlace) (fs : List Frame) (ls : List (
 
   -- ---- tests
 
-  truth-value : (t : Tree) (s : Side) (test : Test) (v : Plain) → side_of fs p.frame ls t ≡ s → truth_of s ≡ Some test → test_value test other g ≡ Some v → value_with (suc n) w p t ≡ Some v
+  truth-value : (t : Tree) (s : Side) (test : Test) (v : Plain) → side_of fs p.frame ls t ≡ s → truth_of s ≡ Some test
+      → test_value test other g ≡ Some v → value_with (suc n) w p t ≡ Some v
   truth-value t (asked_of x) test v is e has =
       let same : Test.Truth x ≡ test = cc in
       asked-value t x v is (sym (option_map-itself (counted (enclosed_expr other g x))) ∙ ap (λ z. test_value z other g) same ∙ has)
@@ -135,33 +148,41 @@ module _ (w : PlainWorld) (n : ℕ) (p : AdPlace) (fs : List Frame) (ls : List (
   truth-value t neither test v is e has = absurd (none-test test e)
 
   -- two values give one
-  both-values : (op : BinOp) (a b : Tree) (u v : Plain) → value_with (suc n) w p a ≡ Some u → value_with (suc n) w p b ≡ Some v → value_with (suc n) w p (node (binary op) (more a (more b none))) ≡ Some (binary_value op u v)
+  both-values : (op : BinOp) (a b : Tree) (u v : Plain) → value_with (suc n) w p a ≡ Some u → value_with (suc n) w p b ≡ Some v
+      → value_with (suc n) w p (node (binary op) (more a (more b none))) ≡ Some (binary_value op u v)
   both-values op a b u v left right =
       ap (option_and_then (λ x. option_map (binary_value op x) (value_with (suc n) w p b))) left
       ∙ ap (option_map (binary_value op u)) right
 
-  asked-left : (op : BinOp) (a b : Tree) (x : List ℕ) (lit : Lit) (v : Plain) → side_of fs p.frame ls a ≡ asked_of x → side_of fs p.frame ls b ≡ constant lit
-      → (o : Option Plain) → counted (enclosed_expr other g x) ≡ o → option_map (λ y. binary_value op y (plain_of_lit lit)) o ≡ Some v → value_with (suc n) w p (node (binary op) (more a (more b none))) ≡ Some v
+  asked-left : (op : BinOp) (a b : Tree) (x : List ℕ) (lit : Lit) (v : Plain) → side_of fs p.frame ls a ≡ asked_of x
+      → side_of fs p.frame ls b ≡ constant lit
+      → (o : Option Plain) → counted (enclosed_expr other g x) ≡ o → option_map (λ y. binary_value op y (plain_of_lit lit)) o ≡ Some v
+      → value_with (suc n) w p (node (binary op) (more a (more b none))) ≡ Some v
   asked-left op a b x lit v left right None is e = absurd (none-plain v e)
   asked-left op a b x lit v left right (Some y) is e = both-values op a b y (plain_of_lit lit) (asked-value a x y left is) (constant-value b lit right) ∙ e
 
-  asked-right : (op : BinOp) (a b : Tree) (x : List ℕ) (lit : Lit) (v : Plain) → side_of fs p.frame ls a ≡ constant lit → side_of fs p.frame ls b ≡ asked_of x
-      → (o : Option Plain) → counted (enclosed_expr other g x) ≡ o → option_map (λ y. binary_value op (plain_of_lit lit) y) o ≡ Some v → value_with (suc n) w p (node (binary op) (more a (more b none))) ≡ Some v
+  asked-right : (op : BinOp) (a b : Tree) (x : List ℕ) (lit : Lit) (v : Plain) → side_of fs p.frame ls a ≡ constant lit
+      → side_of fs p.frame ls b ≡ asked_of x
+      → (o : Option Plain) → counted (enclosed_expr other g x) ≡ o → option_map (λ y. binary_value op (plain_of_lit lit) y) o ≡ Some v
+      → value_with (suc n) w p (node (binary op) (more a (more b none))) ≡ Some v
   asked-right op a b x lit v left right None is e = absurd (none-plain v e)
   asked-right op a b x lit v left right (Some y) is e = both-values op a b (plain_of_lit lit) y (constant-value a lit left) (asked-value b x y right is) ∙ e
 
   comparison-value : (op : BinOp) (a b : Tree) (s t : Side) (test : Test) (v : Plain) → side_of fs p.frame ls a ≡ s → side_of fs p.frame ls b ≡ t
-      → comparison_of op s t ≡ Some test → test_value test other g ≡ Some v → value_with (suc n) w p (node (binary op) (more a (more b none))) ≡ Some v
+      → comparison_of op s t ≡ Some test → test_value test other g ≡ Some v
+      → value_with (suc n) w p (node (binary op) (more a (more b none))) ≡ Some v
   comparison-value op a b (asked_of x) (constant lit) test v left right e has = by (is_comparison op) e
     where
-      by : (c : Bool) → (if c then Some (Test.Compare x op lit true) else None) ≡ Some test → value_with (suc n) w p (node (binary op) (more a (more b none))) ≡ Some v
+      by : (c : Bool) → (if c then Some (Test.Compare x op lit true) else None) ≡ Some test
+          → value_with (suc n) w p (node (binary op) (more a (more b none))) ≡ Some v
       by true h =
           let same : Test.Compare x op lit true ≡ test = cc in
           asked-left op a b x lit v left right (counted (enclosed_expr other g x)) refl (ap (λ z. test_value z other g) same ∙ has)
       by false h = absurd (cc)
   comparison-value op a b (constant lit) (asked_of x) test v left right e has = by (is_comparison op) e
     where
-      by : (c : Bool) → (if c then Some (Test.Compare x op lit false) else None) ≡ Some test → value_with (suc n) w p (node (binary op) (more a (more b none))) ≡ Some v
+      by : (c : Bool) → (if c then Some (Test.Compare x op lit false) else None) ≡ Some test
+          → value_with (suc n) w p (node (binary op) (more a (more b none))) ≡ Some v
       by true h =
           let same : Test.Compare x op lit false ≡ test = cc in
           asked-right op a b x lit v left right (counted (enclosed_expr other g x)) refl (ap (λ z. test_value z other g) same ∙ has)
@@ -175,13 +196,15 @@ module _ (w : PlainWorld) (n : ℕ) (p : AdPlace) (fs : List Frame) (ls : List (
   comparison-value op a b neither neither test v left right e has = absurd (none-test test e)
 
   -- where a test has a value, its conjunct has that value
-  pub conjunct-value : (t : Tree) (test : Test) (v : Plain) → test_of fs p.frame ls t ≡ Some test → test_value test other g ≡ Some v → value_with (suc n) w p t ≡ Some v
+  pub conjunct-value : (t : Tree) (test : Test) (v : Plain) → test_of fs p.frame ls t ≡ Some test → test_value test other g ≡ Some v
+      → value_with (suc n) w p t ≡ Some v
   conjunct-value (node (literal l) ts) test v e has = truth-value (node (literal l) ts) (side_of fs p.frame ls (node (literal l) ts)) test v refl e has
   conjunct-value (node (name s x) ts) test v e has = truth-value (node (name s x) ts) (side_of fs p.frame ls (node (name s x) ts)) test v refl e has
   conjunct-value (node (unary op) ts) test v e has = absurd (none-test test e)
   conjunct-value (node (binary op) none) test v e has = absurd (none-test test e)
   conjunct-value (node (binary op) (more a none)) test v e has = absurd (none-test test e)
-  conjunct-value (node (binary op) (more a (more b none))) test v e has = comparison-value op a b (side_of fs p.frame ls a) (side_of fs p.frame ls b) test v refl refl e has
+  conjunct-value (node (binary op) (more a (more b none))) test v e has =
+      comparison-value op a b (side_of fs p.frame ls a) (side_of fs p.frame ls b) test v refl refl e has
   conjunct-value (node (binary op) (more a (more b (more c ts)))) test v e has = absurd (none-test test e)
   conjunct-value (node all ts) test v e has = absurd (none-test test e)
   conjunct-value (node any ts) test v e has = absurd (none-test test e)

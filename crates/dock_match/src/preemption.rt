@@ -65,11 +65,13 @@ pub fn won_from<F: Ledger, E: Ledger, T: Ledger>(
     requires stored { IfSome holder (λ h. All (Contains (stock_of store.now).slots) h.slots.now) }
     requires stands { IfSome holder (λ h. h.port < length h.slots.now) }
     requires fills { IfSome holder (λ h. length h.slots.now ≡ max 1 (length h.request.now.ports)) }
-    ensures won { IfOk result (λ won. won ≡ won_from number regard (option_map (pool.hold_of moment (stock_of store.now)) (option_map holding_of holder.entry))) }
+    ensures won { IfOk result (λ won. won ≡ won_from number regard (option_map (pool.hold_of moment (stock_of store.now))
+        (option_map holding_of holder.entry))) }
     ensures evaluations { tops.new ≤ tops.old + 1 }
     ensures entries { entry.new ≤ entry.old
         + option_map_or (λ h. attribute_count (pool.holder_world moment (stock_of store.now) h)) (option_map holding_of holder.entry) 0 }
-    ensures ratio { IfSome holder.entry (λ h. IsSmall (ad_frames h.request.now.ad)) → AreSmallAds (stock_of store.now).ads → entry.new + 9216 * tops.old ≤ entry.old + 9216 * tops.new }
+    ensures ratio { IfSome holder.entry (λ h. IsSmall (ad_frames h.request.now.ad)) → AreSmallAds (stock_of store.now).ads
+        → entry.new + 9216 * tops.old ≤ entry.old + 9216 * tops.new }
     ensures looks { touch.new ≤ touch.old + 8 }
     ensures free { holder.entry ≡ None → touch.new ≡ touch.old }
 {

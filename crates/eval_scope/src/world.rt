@@ -26,7 +26,8 @@ pub struct World<'a> {
 }
 
 impl<'a> World<'a> {
-    ghost use Rattle.eval_scope.specs.World.{ads, attribute_count, expr_of, frames_of_ad, port_frame, request_side, resource_side, size_at, target, with_docked};
+    ghost use Rattle.eval_scope.specs.World.{ads, attribute_count, expr_of, frames_of_ad, port_frame, request_side, resource_side, size_at, target};
+    ghost use Rattle.eval_scope.specs.World.{with_docked};
     ghost use Rattle.eval_scope.specs.Look.{attribute_in};
     ghost use Rattle.eval_scope.specs.Shown.{world_of};
 

@@ -1,5 +1,6 @@
 -- The order of candidates, and loops over resources.
-use Rattle.std.proofs.Common.{◌≡◌, ◌<◌, ◌≤◌, ◌+◌, ℕ, zero, suc, refl, List, [], ◌++◌, ◌∷◌, length, map, take, drop, get_or, Option, All, ap, sym, ◌∙◌, subst}
+use Rattle.std.proofs.Common.{◌≡◌, ◌<◌, ◌≤◌, ◌+◌, ℕ, zero, suc, refl, List, [], ◌++◌, ◌∷◌, length, map, take, drop, get_or}
+use Rattle.std.proofs.Common.{Option, All, ap, sym, ◌∙◌, subst}
 use Rattle.std.specs.Cmp.{IsStrictWeakOrder, IsTotalOrder}
 use Rattle.std.specs.List.{cons_option, filter_map}
 use Rattle.std.specs.Ordering.{is_lt}
@@ -25,11 +26,13 @@ front-at f [] (suc i) d = refl
 front-at f (x ∷ xs) zero d = refl
 front-at f (x ∷ xs) (suc i) d = front-at f xs i d
 
-pub item-at : {X : Type 0} (f : X → X) (xs now : List X) (i : ℕ) (x : X) → x ≡ get_or now i x → now ≡ map f (take i xs) ++ drop i xs → x ≡ get_or xs i x
+pub item-at : {X : Type 0} (f : X → X) (xs now : List X) (i : ℕ) (x : X) → x ≡ get_or now i x → now ≡ map f (take i xs) ++ drop i xs
+    → x ≡ get_or xs i x
 item-at f xs now i x is so_far = is ∙ ap (λ ys. get_or ys i x) so_far ∙ front-at f xs i x
 
 -- what holds of all of them holds of the item
-pub item-hold : {X : Type 0} (P : X → Type 0) (f : X → X) (start now : List X) (i : ℕ) (item : X) → i < length start → item ≡ get_or now i item → now ≡ map f (take i start) ++ drop i start
+pub item-hold : {X : Type 0} (P : X → Type 0) (f : X → X) (start now : List X) (i : ℕ) (item : X) → i < length start → item ≡ get_or now i item
+    → now ≡ map f (take i start) ++ drop i start
     → All P start → P (get_or now i item)
 item-hold P f start now i item within is so_far h = subst P (sym (item-at f start now i item is so_far) ∙ is) (h i item within)
 
@@ -37,7 +40,8 @@ pub front-all : {X : Type 0} (f : X → X) (xs : List X) (i : ℕ) → length xs
 front-all f xs i past = ap (λ ys. map f (take i xs) ++ ys) (drop_all i xs past) ∙ append-nil (map f (take i xs)) ∙ ap (map f) (take_all i xs past)
 
 module _ {X Y : Type 0} (f : X → Option Y) (xs : List X) (i : ℕ) where
-  pub found-next : (x : X) (ys new : List Y) (o : Option Y) → i < length xs → x ≡ get_or xs i x → ys ≡ filter_map f (take i xs) → o ≡ f x → new ≡ ys ++ cons_option o [] → new ≡ filter_map f (take (i + 1) xs)
+  pub found-next : (x : X) (ys new : List Y) (o : Option Y) → i < length xs → x ≡ get_or xs i x → ys ≡ filter_map f (take i xs) → o ≡ f x
+      → new ≡ ys ++ cons_option o [] → new ≡ filter_map f (take (i + 1) xs)
   found-next x ys new o within is so_far found added =
       added
       ∙ ap (λ zs. zs ++ cons_option o []) so_far

@@ -1,5 +1,6 @@
 -- The worlds of prefixes, and which docks in them can be true.
-use Rattle.std.proofs.Common.{◌≡◌, ℕ, suc, Bool, true, false, not, ◌&&◌, refl, List, [], ◌∷◌, ◌++◌, length, map, filter, Option, Some, slice_get, unwrap_or, ap, sym, ◌∙◌, arith}
+use Rattle.std.proofs.Common.{◌≡◌, ℕ, suc, Bool, true, false, not, ◌&&◌, refl, List, [], ◌∷◌, ◌++◌, length, map, filter, Option, Some}
+use Rattle.std.proofs.Common.{slice_get, unwrap_or, ap, sym, ◌∙◌, arith}
 use Rattle.ad_tree.specs.Frames.{Frame}
 use Rattle.ad_tree.specs.declared.request.Port.{Port}
 use Rattle.ad_eval.specs.Dock.{is_docked}
@@ -22,13 +23,16 @@ get-last (y ∷ xs) x = get-last xs x
 module _ (pool : Pool) (request : List Frame) (ports : List Port) (before : List ℕ) (place : ℕ) where
   -- one more resource docked
   pub gang-with : with_docked (gang_world pool request ports before) (ad_at pool place) ≡ gang_world pool request ports (before ++ place ∷ [])
-  gang-with = ap (λ (docked : List (List Frame)). let w : PlainWorld = record { moment = pool.moment; request = request; ports = ports; docked = docked } in w) (sym (map-more (ad_at pool) before place))
+  gang-with =
+      ap (λ (docked : List (List Frame)). let w : PlainWorld = record { moment = pool.moment; request = request; ports = ports; docked = docked } in w)
+      (sym (map-more (ad_at pool) before place))
 
   abbrev world : PlainWorld
   world = gang_world pool request ports (before ++ place ∷ [])
 
   many-docked : length world.docked ≡ suc (length before)
-  many-docked = ap length (map-more (ad_at pool) before place) ∙ length-more (map (ad_at pool) before) (ad_at pool place) ∙ ap suc (length-mapped (ad_at pool) before)
+  many-docked =
+      ap length (map-more (ad_at pool) before place) ∙ length-more (map (ad_at pool) before) (ad_at pool place) ∙ ap suc (length-mapped (ad_at pool) before)
 
   last-is : last_ad world ≡ ad_at pool place
   last-is =
@@ -54,14 +58,19 @@ module _ (pool : Pool) (request : List Frame) (ports : List Port) (before : List
 
 -- the next places are among the open ones
 module _ (pool : Pool) (request : List Frame) (ports : List Port) (before : List ℕ) where
-  fits-open : (place : ℕ) → fits (choice_of pool request ports) before place ≡ true → is_open pool request ports (port_frame ports (suc (length before))) place ≡ true
+  fits-open : (place : ℕ) → fits (choice_of pool request ports) before place ≡ true
+      → is_open pool request ports (port_frame ports (suc (length before))) place ≡ true
   unfolding fits
-  fits-open place e = docks-open pool request ports before place (second (not (is_among before place)) (is_docked (gang_world pool request ports (before ++ place ∷ []))) e)
+  fits-open place e =
+      docks-open pool request ports before place (second (not (is_among before place)) (is_docked (gang_world pool request ports (before ++ place ∷ []))) e)
     where
       second : (a b : Bool) → (a && b) ≡ true → b ≡ true
       second true b e = e
       second false b e = absurd (cc)
 
-  pub next-open : filter (fits (choice_of pool request ports) before) (open_places pool request ports (port_frame ports (suc (length before)))) ≡ next (choice_of pool request ports) before
+  pub next-open : filter (fits (choice_of pool request ports) before) (open_places pool request ports (port_frame ports (suc (length before))))
+      ≡ next (choice_of pool request ports) before
   unfolding next open_places
-  next-open = filter-narrow (fits (choice_of pool request ports) before) (is_open pool request ports (port_frame ports (suc (length before)))) fits-open (free_places pool)
+  next-open =
+      filter-narrow (fits (choice_of pool request ports) before) (is_open pool request ports (port_frame ports (suc (length before)))) fits-open
+      (free_places pool)

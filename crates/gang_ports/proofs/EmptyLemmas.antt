@@ -1,5 +1,6 @@
 -- A port without a resource: no tuple fills all ports.
-use Rattle.std.proofs.Common.{◌≡◌, ◌≢◌, ◌<◌, ◌+◌, ◌==◌, ℕ, zero, suc, Bool, ◌||◌, true, false, List, [], ◌∷◌, ◌++◌, length, filter, get_or, map, None, refl, ap, sym, ◌∙◌, subst, arith}
+use Rattle.std.proofs.Common.{◌≡◌, ◌≢◌, ◌<◌, ◌+◌, ◌==◌, ℕ, zero, suc, Bool, ◌||◌, true, false, List, [], ◌∷◌, ◌++◌}
+use Rattle.std.proofs.Common.{length, filter, get_or, map, None, refl, ap, sym, ◌∙◌, subst, arith}
 use Rattle.std.specs.List.{flat_map, list_any}
 use Rattle.std.proofs.lemmas.Bool.{eqb-true}
 use Rattle.std.proofs.lemmas.List.{length-append, length-map, nil_from_length}
@@ -39,33 +40,45 @@ module _ (pool : Pool) (request : List Frame) (ports : List Port) where
   no-next : (before : List ℕ) (side : Side) → IsSide pool request ports (length before) side → has_none side ≡ true → next choice before ≡ []
   no-next before side is none =
       sym (next-open pool request ports before)
-      ∙ ap (filter (fits choice before)) (nil_from_length (open_at (length before)) (sym (as-many (length before) side is) ∙ eqb-true (length side.resources.items) 0 none))
+      ∙ ap (filter (fits choice before)) (nil_from_length (open_at (length before))
+      (sym (as-many (length before) side is) ∙ eqb-true (length side.resources.items) 0 none))
 
   -- the tuples that begin with a place
   abbrev behind_place : ℕ → List ℕ → ℕ → List (List ℕ)
   behind_place n before place = map (λ tuple. place ∷ tuple) (tuples choice n (before ++ place ∷ []))
 
-  no-tuples : (sides : List Side) (before : List ℕ) → AreSides pool request ports (length before) sides → has_empty sides ≡ true → tuples choice (length sides) before ≡ []
+  no-tuples : (sides : List Side) (before : List ℕ) → AreSides pool request ports (length before) sides → has_empty sides ≡ true
+      → tuples choice (length sides) before ≡ []
   unfolding has_empty tuples
   no-tuples [] before are empty = absurd (cc)
   no-tuples (side ∷ sides) before are empty =
-      by (has_none side) refl (λ rest place. no-tuples sides (before ++ place ∷ []) (subst (λ (n : ℕ). AreSides pool request ports n sides) (omega (arith, length-append before (place ∷ []))) are.1) rest)
+      by (has_none side) refl (λ rest place. no-tuples sides (before ++ place ∷ [])
+      (subst (λ (n : ℕ). AreSides pool request ports n sides) (omega (arith, length-append before (place ∷ []))) are.1) rest)
     where
-      by : (b : Bool) → has_none side ≡ b → (list_any has_none sides ≡ true → (place : ℕ) → tuples choice (length sides) (before ++ place ∷ []) ≡ []) → flat_map (behind_place (length sides) before) (next choice before) ≡ []
+      by : (b : Bool) → has_none side ≡ b
+          → (list_any has_none sides ≡ true → (place : ℕ) → tuples choice (length sides) (before ++ place ∷ []) ≡ [])
+          → flat_map (behind_place (length sides) before) (next choice before) ≡ []
       by true e behind = ap (flat_map (behind_place (length sides) before)) (no-next before side are.0 e)
       by false e behind =
           let rest : list_any has_none sides ≡ true = ap (λ b. b || list_any has_none sides) (sym e) ∙ empty in
-          flat_map-none (behind_place (length sides) before) (next choice before) (λ k d within. ap (map (λ tuple. get_or (next choice before) k d ∷ tuple)) (behind rest (get_or (next choice before) k d)))
+          flat_map-none (behind_place (length sides) before) (next choice before)
+          (λ k d within. ap (map (λ tuple. get_or (next choice before) k d ∷ tuple)) (behind rest (get_or (next choice before) k d)))
 
-  pub gang-empty : (sides : List Side) → AreSides pool request ports 0 sides → length sides ≡ length ports → has_empty sides ≡ true → gang pool request ports ≡ None
+  pub gang-empty : (sides : List Side) → AreSides pool request ports 0 sides → length sides ≡ length ports → has_empty sides ≡ true
+      → gang pool request ports ≡ None
   gang-empty sides are many empty = gang-none pool request ports (length sides) many (no-tuples sides [] are empty)
 
-  some-open : (k i p : ℕ) (sides : List Side) → p ≡ k + i → AreSides pool request ports k sides → has_empty sides ≡ false → i < length sides → 0 < length (open_at p)
+  some-open : (k i p : ℕ) (sides : List Side) → p ≡ k + i → AreSides pool request ports k sides → has_empty sides ≡ false → i < length sides
+      → 0 < length (open_at p)
   unfolding has_empty
   some-open k i p [] at are full within = absurd (omega (arith, within))
   some-open k zero p (side ∷ sides) at are full within =
       let here : k ≡ p = omega (arith, at) in
-      subst (λ (n : ℕ). 0 < length (open_at n)) here (omega (arith, as-many k side are.0, above-zero (length side.resources.items) (or-left (has_none side) (list_any has_none sides) full)))
+      subst (λ (n : ℕ). 0 < length (open_at n)) here (omega (
+        arith,
+        as-many k side are.0,
+        above-zero (length side.resources.items) (or-left (has_none side) (list_any has_none sides) full),
+      ))
     where
       or-left : (a b : Bool) → (a || b) ≡ false → a ≡ false
       or-left true b e = e
@@ -78,6 +91,7 @@ module _ (pool : Pool) (request : List Frame) (ports : List Port) where
       or-right false b e = e
 
   -- where no port has none, the dock of each may be true with some resource
-  pub all-open : (sides others : List Side) → others ≡ sides → AreSides pool request ports 0 sides → length sides ≡ length ports → has_empty others ≡ false → (i : ℕ) → i < length ports → open_at i ≢ []
-  all-open sides others same are many full i within none =
-      omega (arith, some-open 0 i i sides (omega arith) are (ap has_empty (sym same) ∙ full) (omega (arith, within, many)), ap length none)
+  pub all-open : (sides : List Side) → AreSides pool request ports 0 sides → length sides ≡ length ports → has_empty sides ≡ false
+      → (i : ℕ) → i < length ports → open_at i ≢ []
+  all-open sides are many full i within none =
+      omega (arith, some-open 0 i i sides (omega arith) are full (omega (arith, within, many)), ap length none)

@@ -1,5 +1,6 @@
 -- A free port: no expression of the request has the label of a port before it, so that its docks are the same behind all prefixes of one length.
-use Rattle.std.proofs.Common.{◌≡◌, ◌<◌, ℕ, zero, suc, Bool, true, false, ◌||◌, not, refl, List, [], ◌∷◌, ◌++◌, length, map, take, Option, None, Some, option_map, slice_get, unwrap_or, ap, sym, ◌∙◌, arith}
+use Rattle.std.proofs.Common.{◌≡◌, ◌<◌, ℕ, zero, suc, Bool, true, false, ◌||◌, not, refl, List, [], ◌∷◌, ◌++◌, length, map, take}
+use Rattle.std.proofs.Common.{Option, None, Some, option_map, slice_get, unwrap_or, ap, sym, ◌∙◌, arith}
 use Rattle.std.specs.List.{list_any}
 use Rattle.ad_tree.specs.Frames.{Frame, attributes_in, expr_at}
 use Rattle.ad_tree.specs.Tree.{Tree}
@@ -37,29 +38,38 @@ get-take (y ∷ xs) (suc i) zero x low at = at
 get-take (y ∷ xs) (suc i) (suc j) x low at = get-take xs i j x (omega (arith, low)) at
 
 -- an expression of an attribute
-expr-unnamed : (request : List Frame) (label : List ℕ) → is_referred request label ≡ false → (f k : ℕ) (t : Tree) → expr_at request f k ≡ Some t → refers label t ≡ false
+expr-unnamed : (request : List Frame) (label : List ℕ) → is_referred request label ≡ false → (f k : ℕ) (t : Tree) → expr_at request f k ≡ Some t
+    → refers label t ≡ false
 expr-unnamed request label none f k t at = by (slice_get request f) refl at
   where
-    attribute : (attributes : List (List ℕ × Tree)) → list_any (λ a. refers label a.1) attributes ≡ false → (o : Option (List ℕ × Tree)) → slice_get attributes k ≡ o → option_map (λ a. a.1) o ≡ Some t → refers label t ≡ false
+    attribute : (attributes : List (List ℕ × Tree)) → list_any (λ a. refers label a.1) attributes ≡ false → (o : Option (List ℕ × Tree))
+        → slice_get attributes k ≡ o → option_map (λ a. a.1) o ≡ Some t → refers label t ≡ false
     attribute attributes unnamed None e is = absurd (cc)
-    attribute attributes unnamed (Some a) e is = let same : a.1 ≡ t = cc in sym (ap (refers label) same) ∙ none-passes (λ (b : List ℕ × Tree). refers label b.1) attributes k a unnamed e
+    attribute attributes unnamed (Some a) e is =
+        let same : a.1 ≡ t = cc in sym (ap (refers label) same) ∙ none-passes (λ (b : List ℕ × Tree). refers label b.1) attributes k a unnamed e
 
     by : (o : Option Frame) → slice_get request f ≡ o → option_map (λ a. a.1) (slice_get (attributes_in o) k) ≡ Some t → refers label t ≡ false
     by None e is = absurd (cc)
-    by (Some g) e is = attribute g.attributes (none-passes (λ (h : Frame). list_any (λ a. refers label a.1) h.attributes) request f g none e) (slice_get g.attributes k) refl is
+    by (Some g) e is =
+        attribute g.attributes (none-passes (λ (h : Frame). list_any (λ a. refers label a.1) h.attributes) request f g none e) (slice_get g.attributes k) refl
+        is
 
-module _ (pool : Pool) (request : List Frame) (ports : List Port) (before others : List ℕ) (place : ℕ) (many : length others ≡ length before) (free : is_free_port request ports (length before) ≡ true) where
-  unnamed : (f k : ℕ) (t : Tree) → expr_at request f k ≡ Some t → (j : ℕ) (port : Port) → j < length before → slice_get ports j ≡ Some port → refers port.label t ≡ false
+module _ (pool : Pool) (request : List Frame) (ports : List Port) (before others : List ℕ) (place : ℕ) (many : length others ≡ length before)
+    (free : is_free_port request ports (length before) ≡ true) where
+  unnamed : (f k : ℕ) (t : Tree) → expr_at request f k ≡ Some t → (j : ℕ) (port : Port) → j < length before → slice_get ports j ≡ Some port
+      → refers port.label t ≡ false
   unfolding is_free_port
   unnamed f k t at j port low is =
       expr-unnamed request port.label
-      (none-passes (λ (p : Port). is_referred request p.label) (take (length before) ports) j port (not-true (list_any (λ (p : Port). is_referred request p.label) (take (length before) ports)) free) (get-take ports (length before) j port low is))
+      (none-passes (λ (p : Port). is_referred request p.label) (take (length before) ports) j port
+      (not-true (list_any (λ (p : Port). is_referred request p.label) (take (length before) ports)) free) (get-take ports (length before) j port low is))
       f k t at
 
   docked-many : (places : List ℕ) → length places ≡ length before → length (map (ad_at pool) (places ++ place ∷ [])) ≡ suc (length before)
   docked-many places same = length-mapped (ad_at pool) (places ++ place ∷ []) ∙ length-more places place ∙ ap suc same
 
-  last-is : (places : List ℕ) → length places ≡ length before → frames_of_ad (gang_world pool request ports (places ++ place ∷ [])) (suc (length before)) ≡ ad_at pool place
+  last-is : (places : List ℕ) → length places ≡ length before
+      → frames_of_ad (gang_world pool request ports (places ++ place ∷ [])) (suc (length before)) ≡ ad_at pool place
   last-is places same =
       let docked = map (ad_at pool) places in
       let long : length docked ≡ length before = length-mapped (ad_at pool) places ∙ same in
@@ -73,11 +83,16 @@ module _ (pool : Pool) (request : List Frame) (ports : List Port) (before others
   other : length (map (ad_at pool) (before ++ place ∷ [])) ≡ suc (length before)
   other = docked-many before refl
 
-  same-last : frames_of_ad (gang_world pool request ports (others ++ place ∷ [])) (suc (length before)) ≡ frames_of_ad (gang_world pool request ports (before ++ place ∷ [])) (suc (length before))
+  same-last : frames_of_ad (gang_world pool request ports (others ++ place ∷ [])) (suc (length before))
+      ≡ frames_of_ad (gang_world pool request ports (before ++ place ∷ [])) (suc (length before))
   same-last = last-is others many ∙ sym (last-is before refl)
 
   pub free-dock : (choice_of pool request ports).dock others place ≡ (choice_of pool request ports).dock before place
-  free-dock = dock-same pool.moment request ports (length before) (map (ad_at pool) (others ++ place ∷ [])) (map (ad_at pool) (before ++ place ∷ [])) one other same-last unnamed
+  free-dock =
+      dock-same pool.moment request ports (length before) (map (ad_at pool) (others ++ place ∷ [])) (map (ad_at pool) (before ++ place ∷ [])) one other
+      same-last unnamed
 
   pub free-rank : (choice_of pool request ports).rank others place ≡ (choice_of pool request ports).rank before place
-  free-rank = rank-same pool.moment request ports (length before) (map (ad_at pool) (others ++ place ∷ [])) (map (ad_at pool) (before ++ place ∷ [])) one other same-last unnamed
+  free-rank =
+      rank-same pool.moment request ports (length before) (map (ad_at pool) (others ++ place ∷ [])) (map (ad_at pool) (before ++ place ∷ [])) one other
+      same-last unnamed

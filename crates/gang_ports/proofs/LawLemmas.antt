@@ -1,5 +1,6 @@
 -- That the computed tuple is the first, and what is left to choose among where fewer places are free.
-use Rattle.std.proofs.Common.{◌≡◌, ◌≤◌, ℕ, zero, suc, Bool, true, false, cond, if◌then◌else◌, refl, List, [], ◌∷◌, ◌++◌, length, map, filter, get_or, sum_by, Option, None, Some, All, ap, sym, ◌∙◌, subst, arith, Less, Equal, Greater}
+use Rattle.std.proofs.Common.{◌≡◌, ◌≤◌, ℕ, zero, suc, Bool, true, false, cond, if◌then◌else◌, refl, List, [], ◌∷◌, ◌++◌, length}
+use Rattle.std.proofs.Common.{map, filter, get_or, sum_by, Option, None, Some, All, ap, sym, ◌∙◌, subst, arith, Less, Equal, Greater}
 use Rattle.std.specs.List.{flat_map}
 use Rattle.std.specs.Ordering.{is_lt, ordering_reverse, ordering_then}
 use Rattle.std.specs.declared.cmp.Ordering.{Ordering}
@@ -17,7 +18,9 @@ module _ (choice : Choice) where
   itself : (before xs : List ℕ) → tuple_order choice before xs xs ≡ Equal
   unfolding tuple_order
   itself before [] = refl
-  itself before (a ∷ xs) = ap (λ (r : Ordering). ordering_then r (tuple_order choice (before ++ a ∷ []) xs xs)) (tied_itself (place_total choice before) a) ∙ itself (before ++ a ∷ []) xs
+  itself before (a ∷ xs) =
+      ap (λ (r : Ordering). ordering_then r (tuple_order choice (before ++ a ∷ []) xs xs)) (tied_itself (place_total choice before) a)
+      ∙ itself (before ++ a ∷ []) xs
 
   turned : (before xs ys : List ℕ) → tuple_order choice before xs ys ≡ ordering_reverse (tuple_order choice before ys xs)
   unfolding tuple_order
@@ -28,14 +31,17 @@ module _ (choice : Choice) where
       ap (λ (r : Ordering). ordering_then r (tuple_order choice (before ++ a ∷ []) xs ys)) ((place_total choice before).antisymm a b)
       ∙ by (turned (before ++ a ∷ []) xs ys) (place_order choice before b a) refl
     where
-      by : tuple_order choice (before ++ a ∷ []) xs ys ≡ ordering_reverse (tuple_order choice (before ++ a ∷ []) ys xs) → (r : Ordering) → place_order choice before b a ≡ r
-          → ordering_then (ordering_reverse r) (tuple_order choice (before ++ a ∷ []) xs ys) ≡ ordering_reverse (ordering_then r (tuple_order choice (before ++ b ∷ []) ys xs))
+      by : tuple_order choice (before ++ a ∷ []) xs ys ≡ ordering_reverse (tuple_order choice (before ++ a ∷ []) ys xs) → (r : Ordering)
+          → place_order choice before b a ≡ r
+          → ordering_then (ordering_reverse r) (tuple_order choice (before ++ a ∷ []) xs ys)
+          ≡ ordering_reverse (ordering_then r (tuple_order choice (before ++ b ∷ []) ys xs))
       by rest Less e = refl
       by rest Greater e = refl
       by rest Equal e = rest ∙ ap (λ (p : ℕ). ordering_reverse (tuple_order choice (before ++ p ∷ []) ys xs)) (sym (tied-places choice before b a e))
 
   -- what isn't before the second isn't before the first, where the second isn't before the first
-  chain : (before xs ys zs : List ℕ) → is_lt (tuple_order choice before ys xs) ≡ false → is_lt (tuple_order choice before zs ys) ≡ false → is_lt (tuple_order choice before zs xs) ≡ false
+  chain : (before xs ys zs : List ℕ) → is_lt (tuple_order choice before ys xs) ≡ false → is_lt (tuple_order choice before zs ys) ≡ false
+      → is_lt (tuple_order choice before zs xs) ≡ false
   unfolding tuple_order
   chain before [] ys [] h k = refl
   chain before [] ys (c ∷ zs) h k = refl
@@ -44,16 +50,19 @@ module _ (choice : Choice) where
   chain before (a ∷ xs) (b ∷ ys) (c ∷ zs) h k =
       by (λ f g. chain (before ++ c ∷ []) xs ys zs f g) (place_order choice before b a) (place_order choice before c b) refl refl h k
     where
-      greater : place_order choice before c a ≡ Greater → is_lt (ordering_then (place_order choice before c a) (tuple_order choice (before ++ c ∷ []) zs xs)) ≡ false
+      greater : place_order choice before c a ≡ Greater
+          → is_lt (ordering_then (place_order choice before c a) (tuple_order choice (before ++ c ∷ []) zs xs)) ≡ false
       greater e = ap (λ (r : Ordering). is_lt (ordering_then r (tuple_order choice (before ++ c ∷ []) zs xs))) e
 
       -- a is before b
       below : (p q : ℕ) → place_order choice before q p ≡ Greater → place_order choice before p q ≡ Less
       below p q e = (place_total choice before).antisymm p q ∙ ap ordering_reverse e
 
-      by : (is_lt (tuple_order choice (before ++ c ∷ []) ys xs) ≡ false → is_lt (tuple_order choice (before ++ c ∷ []) zs ys) ≡ false → is_lt (tuple_order choice (before ++ c ∷ []) zs xs) ≡ false)
+      by : (is_lt (tuple_order choice (before ++ c ∷ []) ys xs) ≡ false → is_lt (tuple_order choice (before ++ c ∷ []) zs ys) ≡ false
+          → is_lt (tuple_order choice (before ++ c ∷ []) zs xs) ≡ false)
           → (r s : Ordering) → place_order choice before b a ≡ r → place_order choice before c b ≡ s
-          → is_lt (ordering_then r (tuple_order choice (before ++ b ∷ []) ys xs)) ≡ false → is_lt (ordering_then s (tuple_order choice (before ++ c ∷ []) zs ys)) ≡ false
+          → is_lt (ordering_then r (tuple_order choice (before ++ b ∷ []) ys xs)) ≡ false
+          → is_lt (ordering_then s (tuple_order choice (before ++ c ∷ []) zs ys)) ≡ false
           → is_lt (ordering_then (place_order choice before c a) (tuple_order choice (before ++ c ∷ []) zs xs)) ≡ false
       by behind Less s e d f g = absurd (cc)
       by behind r Less e d f g = absurd (cc)
@@ -64,7 +73,8 @@ module _ (choice : Choice) where
       by behind Equal Equal e d f g =
           let one : c ≡ b = tied-places choice before c b d in
           let tie : place_order choice before c a ≡ Equal = ap (λ (p : ℕ). place_order choice before p a) one ∙ e in
-          let first : is_lt (tuple_order choice (before ++ c ∷ []) ys xs) ≡ false = subst (λ (p : ℕ). is_lt (tuple_order choice (before ++ p ∷ []) ys xs) ≡ false) (sym one) f in
+          let first : is_lt (tuple_order choice (before ++ c ∷ []) ys xs) ≡ false =
+          subst (λ (p : ℕ). is_lt (tuple_order choice (before ++ p ∷ []) ys xs) ≡ false) (sym one) f in
           ap (λ (r : Ordering). is_lt (ordering_then r (tuple_order choice (before ++ c ∷ []) zs xs))) tie ∙ behind first g
 
   -- ---- the first of some tuples
@@ -82,17 +92,24 @@ module _ (choice : Choice) where
       only : ts ≡ [] → IsFirst choice [] (x ∷ ts) x
       only e = record {
         among = (zero, omega arith, refl);
-        none_before = All-cons (λ o. is_lt (tuple_order choice [] o x) ≡ false) x ts (ap is_lt (itself [] x)) (subst (λ us. All (λ o. is_lt (tuple_order choice [] o x) ≡ false) us) (sym e) (All-nil (λ o. is_lt (tuple_order choice [] o x) ≡ false)));
+        none_before =
+            All-cons (λ o. is_lt (tuple_order choice [] o x) ≡ false) x ts (ap is_lt (itself [] x))
+            (subst (λ us. All (λ o. is_lt (tuple_order choice [] o x) ≡ false) us) (sym e) (All-nil (λ o. is_lt (tuple_order choice [] o x) ≡ false)));
       }
 
-      tested : (b : List ℕ) → IsFirst choice [] ts b → (c : Bool) → is_lt (tuple_order choice [] b x) ≡ c → IsFirst choice [] (x ∷ ts) (if c then b else x)
+      tested : (b : List ℕ) → IsFirst choice [] ts b → (c : Bool) → is_lt (tuple_order choice [] b x) ≡ c
+          → IsFirst choice [] (x ∷ ts) (if c then b else x)
       tested b first true e = record {
         among = (suc first.among.0, omega (arith, first.among.1), first.among.2);
-        none_before = All-cons (λ o. is_lt (tuple_order choice [] o b) ≡ false) x ts (ap is_lt (turned [] x b) ∙ not-before (tuple_order choice [] b x) e) first.none_before;
+        none_before =
+            All-cons (λ o. is_lt (tuple_order choice [] o b) ≡ false) x ts (ap is_lt (turned [] x b) ∙ not-before (tuple_order choice [] b x) e)
+            first.none_before;
       }
       tested b first false e = record {
         among = (zero, omega arith, refl);
-        none_before = All-cons (λ o. is_lt (tuple_order choice [] o x) ≡ false) x ts (ap is_lt (itself [] x)) (λ k d within. chain [] x b _ e (first.none_before k d within));
+        none_before =
+            All-cons (λ o. is_lt (tuple_order choice [] o x) ≡ false) x ts (ap is_lt (itself [] x))
+            (λ k d within. chain [] x b _ e (first.none_before k d within));
       }
 
       by : (o : Option (List ℕ)) → IsFirstOf choice ts o → IsFirstOf choice (x ∷ ts) (Some (earlier choice x o))
@@ -112,7 +129,8 @@ module _ (choice : Choice) where
       (λ k d within.
       let p = get_or (next choice before) k d in
       let one : P p = All-filter (fits choice before) P choice.free free k d within in
-      All-map (λ t. All P t) (λ t. p ∷ t) (tuples choice n (before ++ p ∷ [])) (λ j e w. All-cons P p (get_or (tuples choice n (before ++ p ∷ [])) j e) one (all-tuples P free n (before ++ p ∷ []) j e w)))
+      All-map (λ t. All P t) (λ t. p ∷ t) (tuples choice n (before ++ p ∷ []))
+      (λ j e w. All-cons P p (get_or (tuples choice n (before ++ p ∷ [])) j e) one (all-tuples P free n (before ++ p ∷ []) j e w)))
 
 -- ---- fewer free places
 
@@ -121,8 +139,11 @@ module _ {X : Type 0} (q : X → Bool) where
   filter-turned p [] = refl
   filter-turned p (x ∷ xs) = by (p x) (q x) refl refl (filter-turned p xs)
     where
-      by : (b c : Bool) → p x ≡ b → q x ≡ c → filter p (filter q xs) ≡ filter q (filter p xs) → filter p (cond c (x ∷ filter q xs) (filter q xs)) ≡ filter q (cond b (x ∷ filter p xs) (filter p xs))
-      by true true e d rest = ap (λ z. cond z (x ∷ filter p (filter q xs)) (filter p (filter q xs))) e ∙ ap (λ (ys : List X). x ∷ ys) rest ∙ sym (ap (λ z. cond z (x ∷ filter q (filter p xs)) (filter q (filter p xs))) d)
+      by : (b c : Bool) → p x ≡ b → q x ≡ c → filter p (filter q xs) ≡ filter q (filter p xs)
+          → filter p (cond c (x ∷ filter q xs) (filter q xs)) ≡ filter q (cond b (x ∷ filter p xs) (filter p xs))
+      by true true e d rest =
+          ap (λ z. cond z (x ∷ filter p (filter q xs)) (filter p (filter q xs))) e ∙ ap (λ (ys : List X). x ∷ ys) rest
+          ∙ sym (ap (λ z. cond z (x ∷ filter q (filter p xs)) (filter q (filter p xs))) d)
       by true false e d rest = rest ∙ sym (ap (λ z. cond z (x ∷ filter q (filter p xs)) (filter q (filter p xs))) d)
       by false true e d rest = ap (λ z. cond z (x ∷ filter p (filter q xs)) (filter p (filter q xs))) e ∙ rest
       by false false e d rest = rest
@@ -178,14 +199,19 @@ module _ (q : ℕ → Bool) (choice : Choice) where
       (All-filter q (λ p. map (λ t. p ∷ t) (tuples (fewer q choice) n (before ++ p ∷ [])) ≡ []) (next choice before)
       (λ k d within.
       let p = get_or (next choice before) k d in
-      let none : map (λ t. p ∷ t) (tuples choice n (before ++ p ∷ [])) ≡ [] = all-none (λ p. map (λ t. p ∷ t) (tuples choice n (before ++ p ∷ []))) (next choice before) e k d within in
+      let none : map (λ t. p ∷ t) (tuples choice n (before ++ p ∷ [])) ≡ [] =
+      all-none (λ p. map (λ t. p ∷ t) (tuples choice n (before ++ p ∷ []))) (next choice before) e k d within in
       ap (map (λ t. p ∷ t)) (none-fewer n (before ++ p ∷ []) (unmapped (λ t. p ∷ t) (tuples choice n (before ++ p ∷ [])) none))))
 
-  pub over-fewer : (few many : List ℕ → ℕ) → ((before : List ℕ) → few before ≤ many before) → (n : ℕ) (before : List ℕ) → over_prefixes (fewer q choice) few n before ≤ over_prefixes choice many n before
+  pub over-fewer : (few many : List ℕ → ℕ) → ((before : List ℕ) → few before ≤ many before) → (n : ℕ) (before : List ℕ)
+      → over_prefixes (fewer q choice) few n before ≤ over_prefixes choice many n before
   unfolding over_prefixes
   over-fewer few many below zero before = omega arith
   over-fewer few many below (suc n) before =
-      let next_sum : sum_by (λ p. over_prefixes (fewer q choice) few n (before ++ p ∷ [])) (next (fewer q choice) before) ≤ sum_by (λ p. over_prefixes choice many n (before ++ p ∷ [])) (next choice before) =
-      subst (λ ps. sum_by (λ p. over_prefixes (fewer q choice) few n (before ++ p ∷ [])) ps ≤ sum_by (λ p. over_prefixes choice many n (before ++ p ∷ [])) (next choice before)) (sym (next-fewer before))
-      (sum-fewer q (λ p. over_prefixes (fewer q choice) few n (before ++ p ∷ [])) (λ p. over_prefixes choice many n (before ++ p ∷ [])) (λ p. over-fewer few many below n (before ++ p ∷ [])) (next choice before)) in
+      let next_sum : sum_by (λ p. over_prefixes (fewer q choice) few n (before ++ p ∷ [])) (next (fewer q choice) before)
+      ≤ sum_by (λ p. over_prefixes choice many n (before ++ p ∷ [])) (next choice before) =
+      subst (λ ps. sum_by (λ p. over_prefixes (fewer q choice) few n (before ++ p ∷ [])) ps
+      ≤ sum_by (λ p. over_prefixes choice many n (before ++ p ∷ [])) (next choice before)) (sym (next-fewer before))
+      (sum-fewer q (λ p. over_prefixes (fewer q choice) few n (before ++ p ∷ [])) (λ p. over_prefixes choice many n (before ++ p ∷ []))
+      (λ p. over-fewer few many below n (before ++ p ∷ [])) (next choice before)) in
       omega (arith, next_sum, below before, by-next (fewer q choice) few n before, by-next choice many n before)

@@ -19,4 +19,6 @@ mod SearchLemmas
 mod SideLemmas
 mod SmallLemmas
 mod SpentLemmas
+mod TurnLemmas
 mod WeighLemmas
+mod WholeLemmas

@@ -1,5 +1,7 @@
 -- Lists: sums over lists of lists, what holds of all of their items, and what passes a test.
-use Rattle.std.proofs.Common.{◌≡◌, ◌<◌, ◌≤◌, ◌+◌, ℕ, zero, suc, Bool, true, false, cond, not, ◌&&◌, refl, List, [], ◌∷◌, ◌++◌, length, map, filter, get_or, set, sum_by, swap, take, if◌then◌else◌, ◌*◌, All, Contains, ap, sym, ◌∙◌, subst, arith}
+use Rattle.std.proofs.Common.{◌≡◌, ◌<◌, ◌≤◌, ◌+◌, ℕ, zero, suc, Bool, true, false, cond, not, ◌&&◌, refl, List, [], ◌∷◌}
+use Rattle.std.proofs.Common.{◌++◌, length, map, filter, get_or, set, sum_by, swap, take, if◌then◌else◌, ◌*◌, All, Contains, ap, sym, ◌∙◌}
+use Rattle.std.proofs.Common.{subst, arith}
 use Rattle.std.specs.List.{flat_map}
 use Rattle.std.specs.List.Sorted.{IsPermutation}
 use Rattle.std.proofs.lemmas.List.Elements.{All-append, All-head, All-nil, All-tail, Contains-append_left, Contains-append_right}
@@ -33,7 +35,8 @@ sum_by-flat_map g f (x ∷ xs) = omega (arith, sum_by-append g (f x) (flat_map f
 
 pub All-flat_map : {X Y : Type 0} (P : Y → Type 0) (f : X → List Y) (xs : List X) → All (λ x. All P (f x)) xs → All P (flat_map f xs)
 All-flat_map P f [] h = All-nil P
-All-flat_map P f (x ∷ xs) h = All-append P (f x) (flat_map f xs) (All-head (λ x. All P (f x)) x xs h) (All-flat_map P f xs (All-tail (λ x. All P (f x)) x xs h))
+All-flat_map P f (x ∷ xs) h =
+    All-append P (f x) (flat_map f xs) (All-head (λ x. All P (f x)) x xs h) (All-flat_map P f xs (All-tail (λ x. All P (f x)) x xs h))
 
 pub flat_map-none : {X Y : Type 0} (f : X → List Y) (xs : List X) → All (λ x. f x ≡ []) xs → flat_map f xs ≡ []
 flat_map-none f [] h = refl
@@ -43,7 +46,8 @@ flat_map-none f (x ∷ xs) h =
 pub Contains-flat_map : {X Y : Type 0} (f : X → List Y) (xs : List X) (x : X) (y : Y) → Contains xs x → Contains (f x) y → Contains (flat_map f xs) y
 Contains-flat_map f [] x y h k = absurd (omega (arith, h.1))
 Contains-flat_map f (z ∷ xs) x y (zero, within, is) k = Contains-append_left (f z) (flat_map f xs) y (subst (λ w. Contains (f w) y) (sym is) k)
-Contains-flat_map f (z ∷ xs) x y (suc i, within, is) k = Contains-append_right (f z) (flat_map f xs) y (Contains-flat_map f xs x y (i, omega (arith, within), is) k)
+Contains-flat_map f (z ∷ xs) x y (suc i, within, is) k =
+    Contains-append_right (f z) (flat_map f xs) y (Contains-flat_map f xs x y (i, omega (arith, within), is) k)
 
 pub Contains-map : {X Y : Type 0} (f : X → Y) (xs : List X) (x : X) → Contains xs x → Contains (map f xs) (f x)
 Contains-map f [] x h = absurd (omega (arith, h.1))
@@ -57,7 +61,8 @@ pub filter-narrow : {X : Type 0} (p q : X → Bool) → ((x : X) → p x ≡ tru
 filter-narrow p q gives [] = refl
 filter-narrow {X} p q gives (x ∷ xs) = by (q x) (p x) refl refl (filter-narrow p q gives xs)
   where
-    by : (b c : Bool) → q x ≡ b → p x ≡ c → filter p (filter q xs) ≡ filter p xs → filter p (cond b (x ∷ filter q xs) (filter q xs)) ≡ cond c (x ∷ filter p xs) (filter p xs)
+    by : (b c : Bool) → q x ≡ b → p x ≡ c → filter p (filter q xs) ≡ filter p xs
+        → filter p (cond b (x ∷ filter q xs) (filter q xs)) ≡ cond c (x ∷ filter p xs) (filter p xs)
     by true true asked passed rest = ap (λ d. cond d (x ∷ filter p (filter q xs)) (filter p (filter q xs))) passed ∙ ap (λ (ys : List X). x ∷ ys) rest
     by true false asked passed rest = ap (λ d. cond d (x ∷ filter p (filter q xs)) (filter p (filter q xs))) passed ∙ rest
     by false true asked passed rest = absurd (cc (gives x passed))
@@ -68,7 +73,8 @@ pub filter-both : {X : Type 0} (p q : X → Bool) (xs : List X) → filter q (fi
 filter-both p q [] = refl
 filter-both {X} p q (x ∷ xs) = by (p x) (filter-both p q xs)
   where
-    by : (b : Bool) → filter q (filter p xs) ≡ filter (λ y. p y && q y) xs → filter q (cond b (x ∷ filter p xs) (filter p xs)) ≡ cond (b && q x) (x ∷ filter (λ y. p y && q y) xs) (filter (λ y. p y && q y) xs)
+    by : (b : Bool) → filter q (filter p xs) ≡ filter (λ y. p y && q y) xs
+        → filter q (cond b (x ∷ filter p xs) (filter p xs)) ≡ cond (b && q x) (x ∷ filter (λ y. p y && q y) xs) (filter (λ y. p y && q y) xs)
     by true rest = ap (λ (ys : List X). cond (q x) (x ∷ ys) ys) rest
     by false rest = rest
 
@@ -88,7 +94,9 @@ module _ {X : Type 0} (p : X → Bool) where
   kept-turned : (x y : X) (xs : List X) → Kept (x ∷ y ∷ xs) (y ∷ x ∷ xs)
   kept-turned x y xs = by (p x) (p y)
     where
-      by : (b c : Bool) → IsPermutation (cond b (x ∷ cond c (y ∷ filter p xs) (filter p xs)) (cond c (y ∷ filter p xs) (filter p xs))) (cond c (y ∷ cond b (x ∷ filter p xs) (filter p xs)) (cond b (x ∷ filter p xs) (filter p xs)))
+      by : (b c : Bool)
+          → IsPermutation (cond b (x ∷ cond c (y ∷ filter p xs) (filter p xs)) (cond c (y ∷ filter p xs) (filter p xs)))
+          (cond c (y ∷ cond b (x ∷ filter p xs) (filter p xs)) (cond b (x ∷ filter p xs) (filter p xs)))
       by true true = IsPermutation-middle (x ∷ []) y (filter p xs)
       by true false = IsPermutation-refl (x ∷ filter p xs)
       by false true = IsPermutation-refl (y ∷ filter p xs)
@@ -104,7 +112,8 @@ module _ {X : Type 0} (p : X → Bool) where
   kept-to-head (y ∷ xs) (suc j) x d h =
       let z = get_or xs j d in
       kept-far (x ∷ y ∷ xs) (y ∷ x ∷ xs) (z ∷ y ∷ set xs j x) (kept-turned x y xs)
-      (kept-far (y ∷ x ∷ xs) (y ∷ z ∷ set xs j x) (z ∷ y ∷ set xs j x) (kept-behind y (x ∷ xs) (z ∷ set xs j x) (kept-to-head xs j x d (omega (arith, h)))) (kept-turned y z (set xs j x)))
+      (kept-far (y ∷ x ∷ xs) (y ∷ z ∷ set xs j x) (z ∷ y ∷ set xs j x)
+      (kept-behind y (x ∷ xs) (z ∷ set xs j x) (kept-to-head xs j x d (omega (arith, h)))) (kept-turned y z (set xs j x)))
 
   -- two items exchanged
   kept-exchanged : (xs : List X) (i j : ℕ) (d : X) → i < length xs → j < length xs → Kept xs (set (set xs i (get_or xs j d)) j (get_or xs i d))
@@ -122,16 +131,19 @@ module _ {X : Type 0} (p : X → Bool) where
   -- what passes a test has its items in another order where the list has
   pub IsPermutation-filter : (xs ys : List X) → IsPermutation xs ys → IsPermutation (filter p xs) (filter p ys)
   IsPermutation-filter xs ys h =
-      IsPermutation-keeps xs (Kept xs) (IsPermutation-refl (filter p xs)) (λ l i j low high so_far. kept-far xs l (swap l i j) so_far (kept-swapped l i j low high)) ys h
+      IsPermutation-keeps xs (Kept xs) (IsPermutation-refl (filter p xs))
+      (λ l i j low high so_far. kept-far xs l (swap l i j) so_far (kept-swapped l i j low high)) ys h
 
 -- ---- sums over what passes
 
-pub sum_by-passing : {X : Type 0} (p : X → Bool) (f : X → ℕ) (xs : List X) → sum_by (λ x. if p x then 0 else f x) xs ≡ sum_by f (filter (λ x. not (p x)) xs)
+pub sum_by-passing : {X : Type 0} (p : X → Bool) (f : X → ℕ) (xs : List X)
+    → sum_by (λ x. if p x then 0 else f x) xs ≡ sum_by f (filter (λ x. not (p x)) xs)
 sum_by-passing p f [] = refl
 sum_by-passing {X} p f (x ∷ xs) = sum_by-cons (λ y. if p y then 0 else f y) x xs ∙ by (p x) (sum_by-passing p f xs)
   where
     by : (b : Bool) → sum_by (λ y. if p y then 0 else f y) xs ≡ sum_by f (filter (λ y. not (p y)) xs)
-        → (if b then 0 else f x) + sum_by (λ y. if p y then 0 else f y) xs ≡ sum_by f (cond (not b) (x ∷ filter (λ y. not (p y)) xs) (filter (λ y. not (p y)) xs))
+        → (if b then 0 else f x) + sum_by (λ y. if p y then 0 else f y) xs
+        ≡ sum_by f (cond (not b) (x ∷ filter (λ y. not (p y)) xs) (filter (λ y. not (p y)) xs))
     by true rest = omega (arith, rest)
     by false rest = omega (arith, rest, sum_by-cons f x (filter (λ y. not (p y)) xs))
 

@@ -1,5 +1,6 @@
 -- Values that name no ad but the request and the ad that was docked last: operators and functions give no others.
-use Rattle.std.proofs.Common.{◌≡◌, ◌⊎◌, ℕ, zero, suc, Bool, true, false, List, [], ◌∷◌, length, Option, None, Some, IfSome, option_map, if◌then◌else◌, ℤ, pos, negsuc, neg_ℤ, ltb, ◌^◌, refl, subst}
+use Rattle.std.proofs.Common.{◌≡◌, ◌⊎◌, ℕ, zero, suc, Bool, true, false, List, [], ◌∷◌, length, Option, None, Some, IfSome, option_map}
+use Rattle.std.proofs.Common.{if◌then◌else◌, ℤ, pos, negsuc, neg_ℤ, ltb, ◌^◌, refl, subst}
 use Rattle.std.specs.Prelude.{◌+ℤ◌, ◌-ℤ◌, ◌*ℤ◌, int_div, int_rem, nat_lt, ◌&&◌, not, codes}
 use Rattle.std.specs.Int.{int_max, int_min}
 use Rattle.std.specs.List.{filter_map, flat_map, fold, list_all, list_any}
@@ -11,13 +12,15 @@ use Rattle.std.specs.Option.{option_map_or}
 use Rattle.pool_text.specs.declared.language.BinOp.{BinOp}
 use Rattle.pool_text.specs.declared.language.Lit.{Lit}
 use Rattle.pool_text.specs.declared.language.UnOp.{UnOp}
-use Rattle.ad_value.specs.Plain.{Plain, undefined, error, boolean, integer, decimal, text, list, ad_at, Plains, no_plains, plain_then, plain_of_lit, plains_of, elements}
+use Rattle.ad_value.specs.Plain.{Plain, undefined, error, boolean, integer, decimal, text, list, ad_at, Plains, no_plains, plain_then, plain_of_lit, plains_of}
+use Rattle.ad_value.specs.Plain.{elements}
 use Rattle.ad_value.specs.Demands.{all_demanded, chosen, conjunction, disjunction, element, list_value}
 use Rattle.ad_value.specs.Limits.{bounded}
 use Rattle.ad_value.specs.Logic.{and_is_decided, and_value, or_is_decided, or_value}
 use Rattle.ad_value.specs.declared.number.Number.{Number}
 use Rattle.ad_value.specs.Numbers.{decimal_or_error, in_millionths, integer_or_error, million, number_of, number_value, whole_part}
-use Rattle.ad_value.specs.Operators.{binary_value, complement, decimal_row, unary_value, integer_row, negated_value, negation, number_row, on_number, on_numbers, shifted, strict, strict_row, text_row, unary_row, weight_of}
+use Rattle.ad_value.specs.Operators.{binary_value, complement, decimal_row, unary_value, integer_row, negated_value, negation, number_row, on_number}
+use Rattle.ad_value.specs.Operators.{on_numbers, shifted, strict, strict_row, text_row, unary_row, weight_of}
 use Rattle.builtin_funcs.specs.Aggregates.{aggregate, amount_of, chosen_of, greatest, least, may_be_number, on_list, row_in, total, value_in}
 use Rattle.builtin_funcs.specs.Calls.{call_value, function_value, is_known, strict_arguments, strict_in}
 use Rattle.builtin_funcs.specs.Functions.{function_named, function_names}
@@ -25,7 +28,8 @@ use Rattle.builtin_funcs.specs.Kinds.{is_decimal, is_error, is_scalar, is_undefi
 use Rattle.builtin_funcs.specs.Lists.{all_compare_value, any_compare_value, comparison_named, compares, identical_member_value, member_value}
 use Rattle.builtin_funcs.specs.Rows.{chosen as chosen_value}
 use Rattle.builtin_funcs.specs.Rows.{row_of, size_value}
-use Rattle.builtin_funcs.specs.Texts.{bool_value, int_value, on_text, part_value, strcat_value, strcmp_value, stricmp_value, string_list_member_value, string_list_size_value, tail_value, written}
+use Rattle.builtin_funcs.specs.Texts.{bool_value, int_value, on_text, part_value, strcat_value, strcmp_value, stricmp_value, string_list_member_value}
+use Rattle.builtin_funcs.specs.Texts.{string_list_size_value, tail_value, written}
 
 -- the request, or the ad that was docked last of n
 abbrev pub IsNear : ℕ → ℕ → Type 0
@@ -106,7 +110,8 @@ module _ (n : ℕ) where
   decimal_row-near BinOp.Add x y = millionths-near (x +ℤ y)
   decimal_row-near BinOp.Sub x y = millionths-near (x -ℤ y)
   decimal_row-near BinOp.Mul x y = millionths-near (int_div (x *ℤ y) million)
-  decimal_row-near BinOp.Div x y = if-near (int_eq y (pos 0)) error (decimal_or_error (int_div (x *ℤ million) y)) tt (millionths-near (int_div (x *ℤ million) y))
+  decimal_row-near BinOp.Div x y =
+      if-near (int_eq y (pos 0)) error (decimal_or_error (int_div (x *ℤ million) y)) tt (millionths-near (int_div (x *ℤ million) y))
   decimal_row-near BinOp.Rem x y = if-near (int_eq y (pos 0)) error (decimal (int_rem x y)) tt tt
   decimal_row-near op x y = tt
 
@@ -197,12 +202,14 @@ module _ (n : ℕ) where
   pub conjunction-near : (left : Plain) (rs : List (Option Plain)) → NearValue n left → NearOption n (conjunction left rs)
   conjunction-near left [] h = h
   conjunction-near left (None ∷ rs) h = option-near (and_is_decided left) (Some left) None h tt
-  conjunction-near left (Some p ∷ rs) h = option-near (and_is_decided left) (Some left) (conjunction (and_value left p) rs) h (conjunction-near (and_value left p) rs (and-near left p))
+  conjunction-near left (Some p ∷ rs) h =
+      option-near (and_is_decided left) (Some left) (conjunction (and_value left p) rs) h (conjunction-near (and_value left p) rs (and-near left p))
 
   pub disjunction-near : (left : Plain) (rs : List (Option Plain)) → NearValue n left → NearOption n (disjunction left rs)
   disjunction-near left [] h = h
   disjunction-near left (None ∷ rs) h = option-near (or_is_decided left) (Some left) None h tt
-  disjunction-near left (Some p ∷ rs) h = option-near (or_is_decided left) (Some left) (disjunction (or_value left p) rs) h (disjunction-near (or_value left p) rs (or-near left p))
+  disjunction-near left (Some p ∷ rs) h =
+      option-near (or_is_decided left) (Some left) (disjunction (or_value left p) rs) h (disjunction-near (or_value left p) rs (or-near left p))
 
   pub chosen-near : (a b : Option Plain) (v : Plain) → NearOption n a → NearOption n b → NearOption n (chosen a b v)
   chosen-near a b (boolean true) h k = h
@@ -243,7 +250,8 @@ module _ (n : ℕ) where
   aggregate-near row h v = on_list-near (aggregate row) (λ vs.
       let decimals = list_any is_decimal vs in
       if-near (not (list_all may_be_number vs)) error (if list_any is_undefined vs then undefined else row_in row decimals vs) tt
-      (if-near (list_any is_undefined vs) undefined (row_in row decimals vs) tt (h (value_in decimals) (value_in-near decimals) (filter_map (amount_of decimals) vs)))) v
+      (if-near (list_any is_undefined vs) undefined (row_in row decimals vs) tt
+      (h (value_in decimals) (value_in-near decimals) (filter_map (amount_of decimals) vs)))) v
 
   found-near : (value : ℤ → Plain) → ((z : ℤ) → NearValue n (value z)) → (o : Option ℤ) → NearValue n (option_map_or value o undefined)
   found-near value h None = tt
@@ -269,7 +277,8 @@ module _ (n : ℕ) where
 
   int-near : (v : Plain) → NearValue n (int_value v)
   int-near (text bytes) =
-      if-near (nat_lt 0 (length (without_leading_sign bytes)) && all_ascii_digits (without_leading_sign bytes)) (integer_or_error (signed_digits_value 10 bytes)) error (number-near (signed_digits_value 10 bytes)) tt
+      if-near (nat_lt 0 (length (without_leading_sign bytes)) && all_ascii_digits (without_leading_sign bytes))
+      (integer_or_error (signed_digits_value 10 bytes)) error (number-near (signed_digits_value 10 bytes)) tt
   int-near v = number_row-near (λ (x : Number). integer (whole_part x)) (λ x. tt) (number_of v)
 
   bool-near : (v : Plain) → NearValue n (bool_value v)
@@ -335,8 +344,10 @@ module _ (n : ℕ) where
   record IsRow (row : List Plain → ℕ → Plain) : Type 0 where
     near : (args : List Plain) (moment : ℕ) → AllNear n args → NearValue n (row args moment)
 
-  row-is : (row : List Plain → ℕ → Plain) → ((m : ℕ) → NearValue n (row [] m)) → ((x : Plain) (m : ℕ) → NearValue n (row (x ∷ []) m)) → ((x y : Plain) (m : ℕ) → NearValue n (row (x ∷ y ∷ []) m))
-      → ((x y z : Plain) (m : ℕ) → NearValue n y → NearValue n z → NearValue n (row (x ∷ y ∷ z ∷ []) m)) → ((x y z u : Plain) (rest : List Plain) (m : ℕ) → NearValue n (row (x ∷ y ∷ z ∷ u ∷ rest) m)) → IsRow row
+  row-is : (row : List Plain → ℕ → Plain) → ((m : ℕ) → NearValue n (row [] m)) → ((x : Plain) (m : ℕ) → NearValue n (row (x ∷ []) m))
+      → ((x y : Plain) (m : ℕ) → NearValue n (row (x ∷ y ∷ []) m))
+      → ((x y z : Plain) (m : ℕ) → NearValue n y → NearValue n z → NearValue n (row (x ∷ y ∷ z ∷ []) m))
+      → ((x y z u : Plain) (rest : List Plain) (m : ℕ) → NearValue n (row (x ∷ y ∷ z ∷ u ∷ rest) m)) → IsRow row
   row-is row none one two three more = record { near = by }
     where
       by : (args : List Plain) (m : ℕ) → AllNear n args → NearValue n (row args m)
@@ -371,7 +382,8 @@ module _ (n : ℕ) where
         by true k = h.0
         by false k = k
 
-    looked-up : (value : F → Plain) → ((f : F) → IsRow (row f) → NearValue n (value f)) → (o : Option F) → IsFoundRow o → NearValue n (option_map_or value o error)
+    looked-up : (value : F → Plain) → ((f : F) → IsRow (row f) → NearValue n (value f)) → (o : Option F) → IsFoundRow o
+        → NearValue n (option_map_or value o error)
     unfolding IsFoundRow
     looked-up value h None k = tt
     looked-up value h (Some f) k = h f k
@@ -402,7 +414,8 @@ module _ (n : ℕ) where
                         (
                           row-is _ (λ m. tt) (λ x m. tt) (λ x y m. strcmp-near x y) (λ x y z m h k. tt) (λ x y z u rest m. tt),
                           (
-                            row-is _ (λ m. tt) (λ x m. if-near (is_scalar x) (text (written x)) error tt tt) (λ x y m. tt) (λ x y z m h k. tt) (λ x y z u rest m. tt),
+                            row-is _ (λ m. tt) (λ x m. if-near (is_scalar x) (text (written x)) error tt tt) (λ x y m. tt) (λ x y z m h k. tt)
+                                (λ x y z u rest m. tt),
                             (
                               row-is _ (λ m. tt) (λ x m. tt) (λ x y m. tt) (λ x y z m h k. tt) (λ x y z u rest m. tt),
                               (
@@ -428,11 +441,14 @@ module _ (n : ℕ) where
                                                   (
                                                     row-is _ (λ m. tt) (λ x m. tt) (λ x y m. tt) (λ x y z m h k. tt) (λ x y z u rest m. tt),
                                                     (
-                                                      row-is _ (λ m. tt) (λ x m. items-near x _) (λ x y m. items-near x y) (λ x y z m h k. tt) (λ x y z u rest m. tt),
+                                                      row-is _ (λ m. tt) (λ x m. items-near x _) (λ x y m. items-near x y) (λ x y z m h k. tt)
+                                                          (λ x y z u rest m. tt),
                                                       (
-                                                        row-is _ (λ m. tt) (λ x m. tt) (λ x y m. identical-near x y) (λ x y z m h k. tt) (λ x y z u rest m. tt),
+                                                        row-is _ (λ m. tt) (λ x m. tt) (λ x y m. identical-near x y) (λ x y z m h k. tt)
+                                                            (λ x y z u rest m. tt),
                                                         (
-                                                          row-is _ (λ m. tt) (λ x m. tt) (λ x y m. item-near x y _) (λ x y z m h k. item-near x y z) (λ x y z u rest m. tt),
+                                                          row-is _ (λ m. tt) (λ x m. tt) (λ x y m. item-near x y _) (λ x y z m h k. item-near x y z)
+                                                              (λ x y z u rest m. tt),
                                                           tt,
                                                         ),
                                                       ),
@@ -464,12 +480,14 @@ module _ (n : ℕ) where
   )
 
   strict_in-near : (args : List Plain) (v : Plain) → NearValue n v → NearValue n (strict_in args v)
-  strict_in-near args v h = if-near (list_any is_error args) error (if list_any is_undefined args then undefined else v) tt (if-near (list_any is_undefined args) undefined v tt h)
+  strict_in-near args v h =
+      if-near (list_any is_error args) error (if list_any is_undefined args then undefined else v) tt (if-near (list_any is_undefined args) undefined v tt h)
 
   pub call-near : (x : List ℕ) (args : List Plain) (moment : ℕ) → AllNear n args → NearValue n (call_value x args moment)
   unfolding function_value function_named
   call-near x args moment h =
       if-near (is_known x (length args)) (option_map_or (λ f. function_value f args moment) (function_named x) error) error
       (looked-up row_of (λ f. function_value f args moment)
-      (λ f k. bounded-near (strict_in (strict_arguments f args) (row_of f args moment)) (strict_in-near (strict_arguments f args) (row_of f args moment) (k.near args moment h)))
+      (λ f k. bounded-near (strict_in (strict_arguments f args) (row_of f args moment))
+      (strict_in-near (strict_arguments f args) (row_of f args moment) (k.near args moment h)))
       (function_named x) (found-row row_of x function_names rows-are)) tt

@@ -1,5 +1,6 @@
 -- The evaluations of a whole search: each undecided dock of a free port once, and those of another port behind each valid prefix.
-use Rattle.std.proofs.Common.{◌≡◌, ◌≤◌, ◌+◌, ◌*◌, ℕ, zero, suc, Bool, true, false, not, if◌then◌else◌, refl, List, [], ◌∷◌, ◌++◌, length, map, get_or, sum_by, All, ap, sym, ◌∙◌, subst, arith, add-one}
+use Rattle.std.proofs.Common.{◌≡◌, ◌≤◌, ◌+◌, ◌*◌, ℕ, zero, suc, Bool, true, false, not, if◌then◌else◌, refl, List, [], ◌∷◌}
+use Rattle.std.proofs.Common.{◌++◌, length, map, get_or, sum_by, All, ap, sym, ◌∙◌, subst, arith, add-one}
 use Rattle.std.specs.List.{range_with_len}
 use Rattle.std.proofs.Math.Nat.{mul_comm, mul_left_comm}
 use Rattle.std.proofs.lemmas.List.Elements.{All-cons, All-map, All-nil}
@@ -8,7 +9,7 @@ use Rattle.std.proofs.lemmas.List.Sums.{sum_by-cons, sum_by-le}
 use Rattle.ad_tree.specs.Frames.{Frame}
 use Rattle.ad_tree.specs.declared.request.Port.{Port}
 use Rattle.dock_match.specs.Pool.{Pool}
-use Rattle.eval_scope.specs.World.{PlainWorld, port_frame}
+use Rattle.eval_scope.specs.World.{port_frame}
 use Rattle.gang_ports.specs.declared.weighing.Resource.{Resource}
 use Rattle.gang_ports.specs.declared.weighing.Side.{Side}
 use Rattle.gang_ports.specs.Choice.{Choice, is_among, next, over_prefixes, tuples}
@@ -25,7 +26,8 @@ tuples-length choice (suc n) before =
     All-flat_map (λ t. length t ≡ suc n) (λ q. map (λ t. q ∷ t) (tuples choice n (before ++ q ∷ []))) (next choice before)
     (λ k d within.
     let q = get_or (next choice before) k d in
-    All-map (λ t. length t ≡ suc n) (λ t. q ∷ t) (tuples choice n (before ++ q ∷ [])) (λ j e low. ap suc (tuples-length choice n (before ++ q ∷ []) j e low)))
+    All-map (λ t. length t ≡ suc n) (λ t. q ∷ t) (tuples choice n (before ++ q ∷ []))
+    (λ j e low. ap suc (tuples-length choice n (before ++ q ∷ []) j e low)))
 
 range-more : (f : ℕ → ℕ) (a n : ℕ) → sum_by f (range_with_len a (suc n)) ≡ sum_by f (range_with_len a n) + f (a + n)
 range-more f a zero = let same : a + 0 ≡ a = omega arith in omega (arith, sum_by-cons f a [], ap f same)
@@ -53,7 +55,8 @@ module _ (pool : Pool) (request : List Frame) (ports : List Port) where
       three true = omega arith
       three false = omega arith
 
-  ahead-within : (i : ℕ) (sides : List Side) → AreSides pool request ports i sides → sides_ahead sides ≤ sum_by once_at (range_with_len i (length sides))
+  ahead-within : (i : ℕ) (sides : List Side) → AreSides pool request ports i sides
+      → sides_ahead sides ≤ sum_by once_at (range_with_len i (length sides))
   unfolding sides_ahead
   ahead-within i [] are = omega arith
   ahead-within i (side ∷ sides) are =
@@ -67,7 +70,9 @@ module _ (pool : Pool) (request : List Frame) (ports : List Port) where
       )
     where
       many : length side.resources.items ≡ open_at i
-      many = sym (length-mapped (λ (r : Resource). r.place) side.resources.items) ∙ length_permutation (open_places pool request ports (port_frame ports (suc i))) (map (λ (r : Resource). r.place) side.resources.items) are.0.resources.all
+      many = sym (length-mapped (λ (r : Resource). r.place) side.resources.items)
+          ∙ length_permutation (open_places pool request ports (port_frame ports (suc i))) (map (λ (r : Resource). r.place) side.resources.items)
+          are.0.resources.all
 
       by : (b : Bool) → (if b then sum_by evaluations_ahead side.resources.items else 0) ≤ (if b then 3 * open_at i else 0)
       by true = omega (arith, ahead-most side.resources.items, many)
@@ -107,7 +112,9 @@ module _ (pool : Pool) (request : List Frame) (ports : List Port) where
       last = let same : 0 + n ≡ n = omega arith in ap behind_at same
 
       here : sum_by (λ tuple. anew ([] ++ tuple)) (tuples choice n []) ≤ behind_at n
-      here = sum_by-le anew (anew_at n) (tuples choice n []) (λ k d within. subst (λ m. anew (get_or (tuples choice n []) k d) ≤ anew_at m) (tuples-length choice n [] k d within) (anew-least (get_or (tuples choice n []) k d)))
+      here = sum_by-le anew (anew_at n) (tuples choice n [])
+          (λ k d within. subst (λ m. anew (get_or (tuples choice n []) k d) ≤ anew_at m) (tuples-length choice n [] k d within)
+          (anew-least (get_or (tuples choice n []) k d)))
 
   -- ---- both
 
@@ -118,25 +125,21 @@ module _ (pool : Pool) (request : List Frame) (ports : List Port) where
       turned : length (tuples choice i []) * (3 * open_at i) ≡ 3 * (open_at i * length (tuples choice i []))
       turned = mul_left_comm (length (tuples choice i [])) 3 (open_at i) ∙ ap (λ n. 3 * n) (mul_comm (length (tuples choice i [])) (open_at i))
 
-      by : (b : Bool) → (if b then 3 * open_at i else 0) + length (tuples choice i []) * (if b then 0 else 3 * open_at i) ≡ 3 * (open_at i * (if b then 1 else length (tuples choice i [])))
+      by : (b : Bool)
+          → (if b then 3 * open_at i else 0) + length (tuples choice i []) * (if b then 0 else 3 * open_at i)
+          ≡ 3 * (open_at i * (if b then 1 else length (tuples choice i [])))
       by true = omega (arith, mul_comm (length (tuples choice i [])) 0)
       by false = omega (arith, turned)
 
-  once-within : (sides : List Side) → AreSides pool request ports 0 sides → length sides ≡ length ports
+  pub once-within : (sides : List Side) → AreSides pool request ports 0 sides → length sides ≡ length ports
       → evaluations_once pool (gang_world pool request ports []) [] sides ≤ 3 * docks_weighed pool request ports
   once-within sides are many =
       let range = range_with_len 0 (length ports) in
-      let first : sides_ahead sides ≤ sum_by once_at range = subst (λ n. sides_ahead sides ≤ sum_by once_at (range_with_len 0 n)) many (ahead-within 0 sides are) in
-      let others : over_prefixes choice anew (length sides) [] ≤ sum_by behind_at range = subst (λ n. over_prefixes choice anew (length sides) [] ≤ sum_by behind_at (range_with_len 0 n)) many (anew-within (length sides)) in
+      let first : sides_ahead sides ≤ sum_by once_at range =
+      subst (λ n. sides_ahead sides ≤ sum_by once_at (range_with_len 0 n)) many (ahead-within 0 sides are) in
+      let others : over_prefixes choice anew (length sides) [] ≤ sum_by behind_at range =
+      subst (λ n. over_prefixes choice anew (length sides) [] ≤ sum_by behind_at (range_with_len 0 n)) many (anew-within (length sides)) in
       let total : sum_by once_at range + sum_by behind_at range ≡ 3 * docks_weighed pool request ports =
-      sum_by-both once_at behind_at range ∙ sum_by-same (λ i. once_at i + behind_at i) (λ i. 3 * weighed_at pool request ports i) both-at range ∙ sum_by-multiple 3 (weighed_at pool request ports) range in
+      sum_by-both once_at behind_at range ∙ sum_by-same (λ i. once_at i + behind_at i) (λ i. 3 * weighed_at pool request ports i) both-at range
+      ∙ sum_by-multiple 3 (weighed_at pool request ports) range in
       omega (arith, first, others, total)
-
-  -- as the code has it: a world, the places before and the sides, of which there is another list
-  module _ (w : PlainWorld) (same : w ≡ gang_world pool request ports []) (before : List ℕ) (none : before ≡ []) where
-    pub once-whole : (sides others : List Side) → sides ≡ others → AreSides pool request ports 0 others → length sides ≡ length ports → (start tops : ℕ)
-        → tops ≤ start + evaluations_once pool w before sides → tops ≤ start + 3 * docks_weighed pool request ports
-    once-whole sides others is are many start tops step =
-        let here : tops ≤ start + evaluations_once pool (gang_world pool request ports []) [] sides =
-        subst (λ (u : PlainWorld). tops ≤ start + evaluations_once pool u [] sides) same (subst (λ (b : List ℕ). tops ≤ start + evaluations_once pool w b sides) none step) in
-        omega (arith, here, once-within sides (subst (AreSides pool request ports 0) (sym is) are) many)

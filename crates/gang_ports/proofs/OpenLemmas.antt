@@ -1,6 +1,5 @@
 -- What tests leave open of the docks of ports with their resources.
-use Rattle.std.proofs.Common.{◌≡◌, ◌<◌, ◌-◌, ℕ, suc, List, length, get_or, set, Some, All, ap, sym, ◌∙◌, subst, arith}
-use borrow.Rule.Slice.PartMut.{put_mid}
+use Rattle.std.proofs.Common.{◌≡◌, ◌<◌, ℕ, suc, List, length, get_or, Some, All, ap, sym, ◌∙◌, subst, arith}
 use Rattle.ad_tree.specs.Ad.{ad_frames}
 use Rattle.ad_tree.specs.Frames.{Frame}
 use Rattle.ad_tree.specs.declared.request.Port.{Port}
@@ -13,7 +12,9 @@ use Rattle.gang_ports.specs.declared.weighing.Resource.{Resource}
 use Rattle.gang_ports.specs.declared.weighing.Side.{Side}
 use Rattle.gang_ports.specs.Search.{HasSides, HasSidesIn, HaveSides}
 use Rattle.gang_ports.proofs.ListLemmas.{length-more}
-use Rattle.gang_ports.proofs.SearchLemmas.{first-cut, first-whole, rest_of}
+use Rattle.gang_ports.proofs.SearchLemmas.{first-cut, first-whole}
+use Rattle.gang_ports.proofs.TurnLemmas.{Begun, Weighed, first, others, whole}
+use Rattle.gang_ports.proofs.WeighLemmas.{kept-hold}
 
 -- ---- one more resource is docked
 
@@ -26,12 +27,14 @@ module _ (w deeper : PlainWorld) where
     some-docked = omega (arith, longer)
 
     -- the ports that are left there are those behind the next one
-    pub deeper-have : (sides : List Side) → HaveSides w.request w.ports (suc (length w.docked)) sides → HaveSides deeper.request deeper.ports (length deeper.docked) sides
+    pub deeper-have : (sides : List Side) → HaveSides w.request w.ports (suc (length w.docked)) sides
+        → HaveSides deeper.request deeper.ports (length deeper.docked) sides
     deeper-have sides have =
         subst (λ (u : PlainWorld). HaveSides u.request u.ports (length u.docked) sides) (sym docked)
         (subst (λ (n : ℕ). HaveSides w.request w.ports n sides) (sym (length-more w.docked ad)) have)
 
-    pub behind-have : (sides : List Side) → HaveSides deeper.request deeper.ports (length deeper.docked) sides → HaveSides w.request w.ports (suc (length w.docked)) sides
+    pub behind-have : (sides : List Side) → HaveSides deeper.request deeper.ports (length deeper.docked) sides
+        → HaveSides w.request w.ports (suc (length w.docked)) sides
     behind-have sides have =
         subst (λ (n : ℕ). HaveSides w.request w.ports n sides) (length-more w.docked ad)
         (subst (λ (u : PlainWorld). HaveSides u.request u.ports (length u.docked) sides) docked have)
@@ -40,20 +43,25 @@ module _ (w deeper : PlainWorld) where
   pub docked-open : (r : Resource) → deeper ≡ with_docked w (ad_frames r.ad.now) → HasSidesIn w r → last_open deeper ≡ Some r.sides
   docked-open r docked has =
       ap last_open docked
-      ∙ ap (λ (n : ℕ). open_sides w.request (port_frame w.ports n) (labels_of w.ports) (last_ad (with_docked w (ad_frames r.ad.now)))) (length-more w.docked (ad_frames r.ad.now))
+      ∙ ap (λ (n : ℕ). open_sides w.request (port_frame w.ports n) (labels_of w.ports) (last_ad (with_docked w (ad_frames r.ad.now))))
+      (length-more w.docked (ad_frames r.ad.now))
       ∙ ap (open_sides w.request (port_frame w.ports (suc (length w.docked))) (labels_of w.ports)) (last-docked w (ad_frames r.ad.now))
       ∙ has
 
 -- ---- the sides of a search
 
-module _ (request : List Frame) (ports : List Port) (i : ℕ) (sides : List Side) (new : Side) (some : 0 < length sides) where
-  pub first-has : HaveSides request ports i sides → All (HasSides request ports (port_frame ports (suc i))) (get_or sides 0 new).resources.items
-  first-has have = (subst (HaveSides request ports i) (first-cut sides new new some) have).0
+pub first-has : (request : List Frame) (ports : List Port) (i : ℕ) (sides : List Side) (new : Side) → 0 < length sides → HaveSides request ports i sides
+    → All (HasSides request ports (port_frame ports (suc i))) (get_or sides 0 new).resources.items
+first-has request ports i sides new some have = (subst (HaveSides request ports i) (first-cut sides new new some) have).0
 
-  pub rest-have : HaveSides request ports i sides → HaveSides request ports (suc i) (rest_of sides new)
-  rest-have have = (subst (HaveSides request ports i) (first-cut sides new new some) have).1
+module _ (x : Begun) (have : HaveSides x.w.request x.w.ports (length x.w.docked) x.sides) where
+  pub rest-have : HaveSides x.w.request x.w.ports (suc (length x.w.docked)) (others x)
+  rest-have = (subst (HaveSides x.w.request x.w.ports (length x.w.docked)) (first-cut x.sides x.new x.spare x.some) have).1
 
-  -- all of them, once the first one is another, and those behind it are others
-  pub whole-have : (left : List Side) → length left ≡ length (rest_of sides new) → All (HasSides request ports (port_frame ports (suc i))) new.resources.items → HaveSides request ports (suc i) left
-      → HaveSides request ports i (put_mid 1 (length (set sides 0 new) - 1) (set sides 0 new) left)
-  whole-have left long first rest = subst (HaveSides request ports i) (sym (first-whole sides new left some long)) (first, rest)
+  -- all of them, once there are others behind the first one
+  pub whole-have : Weighed x → (left : List Side) → length left ≡ length (others x) → HaveSides x.w.request x.w.ports (suc (length x.w.docked)) left
+      → HaveSides x.w.request x.w.ports (length x.w.docked) (whole x left)
+  whole-have y left long rest =
+      let own : All (HasSidesIn x.w) (first x).resources.items = first-has x.w.request x.w.ports (length x.w.docked) x.sides x.spare x.some have in
+      subst (HaveSides x.w.request x.w.ports (length x.w.docked)) (sym (first-whole x.sides x.new left x.some long))
+      (kept-hold x.w x.listed (HasSidesIn x.w) (λ r kept h. h) (first x) x.new y.kept own, rest)

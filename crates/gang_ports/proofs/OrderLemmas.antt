@@ -1,5 +1,6 @@
 -- The first of some tuples, and how it is found behind a prefix: by the places that may be next, in order.
-use Rattle.std.proofs.Common.{◌≡◌, ◌<◌, ℕ, zero, suc, Bool, true, false, if◌then◌else◌, refl, List, [], ◌∷◌, ◌++◌, length, map, get_or, Option, None, Some, All, Contains, ap, sym, ◌∙◌, subst, arith, Less, Equal, Greater}
+use Rattle.std.proofs.Common.{◌≡◌, ◌<◌, ℕ, zero, suc, Bool, true, false, if◌then◌else◌, refl, List, [], ◌∷◌, ◌++◌, length, map}
+use Rattle.std.proofs.Common.{get_or, Option, None, Some, All, Contains, ap, sym, ◌∙◌, subst, arith, Less, Equal, Greater}
 use Rattle.std.specs.List.Sorted.{IsPermutation, IsSorted}
 use Rattle.std.specs.Cmp.{IsTotalOrder, IsStrictWeakOrder}
 use Rattle.std.specs.Ordering.{int_cmp, is_lt, nat_cmp, ordering_reverse, ordering_then}
@@ -34,22 +35,26 @@ module _ (choice : Choice) (before : List ℕ) where
 
 module _ (choice : Choice) where
   -- two tuples of which neither is before the other are one
-  pub tied-tuples : (before xs ys : List ℕ) → is_lt (tuple_order choice before xs ys) ≡ false → is_lt (tuple_order choice before ys xs) ≡ false → xs ≡ ys
+  pub tied-tuples : (before xs ys : List ℕ) → is_lt (tuple_order choice before xs ys) ≡ false → is_lt (tuple_order choice before ys xs) ≡ false
+      → xs ≡ ys
   unfolding tuple_order
   tied-tuples before [] [] h k = refl
   tied-tuples before [] (b ∷ ys) h k = absurd (cc)
   tied-tuples before (a ∷ xs) [] h k = absurd (cc)
   tied-tuples before (a ∷ xs) (b ∷ ys) h k =
-      by (λ f g. tied-tuples (before ++ a ∷ []) xs ys f g) (place_order choice before a b) (place_order choice before b a) refl ((place_total choice before).antisymm b a) h k
+      by (λ f g. tied-tuples (before ++ a ∷ []) xs ys f g) (place_order choice before a b) (place_order choice before b a) refl
+      ((place_total choice before).antisymm b a) h k
     where
       by : (is_lt (tuple_order choice (before ++ a ∷ []) xs ys) ≡ false → is_lt (tuple_order choice (before ++ a ∷ []) ys xs) ≡ false → xs ≡ ys)
           → (r s : Ordering) → place_order choice before a b ≡ r → s ≡ ordering_reverse (place_order choice before a b)
-          → is_lt (ordering_then r (tuple_order choice (before ++ a ∷ []) xs ys)) ≡ false → is_lt (ordering_then s (tuple_order choice (before ++ b ∷ []) ys xs)) ≡ false → a ∷ xs ≡ b ∷ ys
+          → is_lt (ordering_then r (tuple_order choice (before ++ a ∷ []) xs ys)) ≡ false
+          → is_lt (ordering_then s (tuple_order choice (before ++ b ∷ []) ys xs)) ≡ false → a ∷ xs ≡ b ∷ ys
       by behind Less s places turned f g = absurd (cc)
       by behind Equal s places turned f g =
           let same : s ≡ Equal = turned ∙ ap ordering_reverse places in
           let one : a ≡ b = tied-places choice before a b places in
-          let tail : is_lt (tuple_order choice (before ++ b ∷ []) ys xs) ≡ false = subst (λ (o : Ordering). is_lt (ordering_then o (tuple_order choice (before ++ b ∷ []) ys xs)) ≡ false) same g in
+          let tail : is_lt (tuple_order choice (before ++ b ∷ []) ys xs) ≡ false =
+          subst (λ (o : Ordering). is_lt (ordering_then o (tuple_order choice (before ++ b ∷ []) ys xs)) ≡ false) same g in
           let rest : xs ≡ ys = behind f (subst (λ (p : ℕ). is_lt (tuple_order choice (before ++ p ∷ []) ys xs) ≡ false) (sym one) tail) in
           cc
       by behind Greater s places turned f g =
@@ -74,7 +79,8 @@ module _ (choice : Choice) where
       by_test b there true is = let one : b ≡ t = cc in behind-head x t ts (subst (Contains ts) one there)
       by_test b there false is = at-head x t ts (cc)
 
-      by : ((b : List ℕ) → first_of choice ts ≡ Some b → Contains ts b) → (o : Option (List ℕ)) → first_of choice ts ≡ o → Some (earlier choice x o) ≡ Some t → Contains (x ∷ ts) t
+      by : ((b : List ℕ) → first_of choice ts ≡ Some b → Contains ts b) → (o : Option (List ℕ)) → first_of choice ts ≡ o
+          → Some (earlier choice x o) ≡ Some t → Contains (x ∷ ts) t
       by behind None rest is = at-head x t ts (cc)
       by behind (Some b) rest is = by_test b (behind b rest) (is_lt (tuple_order choice [] b x)) is
 
@@ -125,7 +131,8 @@ module _ (choice : Choice) where
     unfolding tuples
     none-behind h =
         flat_map-none below (next choice before)
-        (All-permutation (λ p. below p ≡ []) cs (next choice before) (IsPermutation-sym (next choice before) cs all) (λ k d within. ap (map (λ tuple. get_or cs k d ∷ tuple)) (h k d within)))
+        (All-permutation (λ p. below p ≡ []) cs (next choice before) (IsPermutation-sym (next choice before) cs all)
+        (λ k d within. ap (map (λ tuple. get_or cs k d ∷ tuple)) (h k d within)))
 
     module _ (ordered : IsSorted (place_order choice before) cs) (i d : ℕ) (within : i < length cs) (t : List ℕ) where
       abbrev c : ℕ
@@ -139,7 +146,9 @@ module _ (choice : Choice) where
       unfolding tuple_order
       same-place none =
           All-map NotBefore (λ tuple. c ∷ tuple) (tuples choice n (before ++ c ∷ []))
-          (λ k e w. ap (λ (r : Ordering). is_lt (ordering_then r (tuple_order choice (before ++ c ∷ []) (get_or (tuples choice n (before ++ c ∷ [])) k e) t))) (tied_itself (place_total choice before) c) ∙ none k e w)
+          (λ k e w. ap (λ (r : Ordering). is_lt (ordering_then r
+          (tuple_order choice (before ++ c ∷ []) (get_or (tuples choice n (before ++ c ∷ [])) k e) t))) (tied_itself (place_total choice before) c)
+          ∙ none k e w)
 
       -- tuples with a first place that isn't before it
       later-place : All NotBefore (below c) → (p : ℕ) → is_lt (place_order choice before p c) ≡ false → All NotBefore (below p)
@@ -151,17 +160,22 @@ module _ (choice : Choice) where
           by Equal is e = subst (λ (q : ℕ). All NotBefore (below q)) (sym (tied-places choice before p c is)) same
           by Greater is e =
               All-map NotBefore (λ tuple. p ∷ tuple) (tuples choice n (before ++ p ∷ []))
-              (λ k e w. ap (λ (r : Ordering). is_lt (ordering_then r (tuple_order choice (before ++ p ∷ []) (get_or (tuples choice n (before ++ p ∷ [])) k e) t))) is)
+              (λ k e w. ap (λ (r : Ordering). is_lt (ordering_then r
+              (tuple_order choice (before ++ p ∷ []) (get_or (tuples choice n (before ++ p ∷ [])) k e) t))) is)
 
-      each-place : ((j : ℕ) → j < i → tuples choice n (before ++ get_or cs j d ∷ []) ≡ []) → All NotBefore (below c) → (j : ℕ) → j < length cs → All NotBefore (below (get_or cs j d))
+      each-place : ((j : ℕ) → j < i → tuples choice n (before ++ get_or cs j d ∷ []) ≡ []) → All NotBefore (below c) → (j : ℕ) → j < length cs
+          → All NotBefore (below (get_or cs j d))
       each-place passed same j inside = by (nat_cmp j i) refl
         where
           by : (r : Ordering) → nat_cmp j i ≡ r → All NotBefore (below (get_or cs j d))
-          by Less e = All-same NotBefore (below (get_or cs j d)) [] (ap (map (λ tuple. get_or cs j d ∷ tuple)) (passed j (ranked j i Less (sym e)))) (All-nil NotBefore)
+          by Less e =
+              All-same NotBefore (below (get_or cs j d)) [] (ap (map (λ tuple. get_or cs j d ∷ tuple)) (passed j (ranked j i Less (sym e))))
+              (All-nil NotBefore)
           by Equal e = subst (λ (k : ℕ). All NotBefore (below (get_or cs k d))) (sym (ranked j i Equal (sym e))) same
           by Greater e =
               let lower : i < j = ranked j i Greater (sym e) in
-              later-place same (get_or cs j d) (sorted_far (λ a b. is_lt (place_order choice before a b)) (place_weak choice before) cs ordered i j d (omega (arith, lower)) inside)
+              later-place same (get_or cs j d) (sorted_far (λ a b. is_lt (place_order choice before a b)) (place_weak choice before) cs ordered i j d
+              (omega (arith, lower)) inside)
 
       -- the first tuple behind the first place that leads to one is the first of all
       pub first-behind : ((j : ℕ) → j < i → tuples choice n (before ++ get_or cs j d ∷ []) ≡ [])
@@ -170,7 +184,10 @@ module _ (choice : Choice) where
       first-behind passed first =
           let turned : IsPermutation cs (next choice before) = IsPermutation-sym (next choice before) cs all in
           record {
-            among = Contains-flat_map below (next choice before) c (c ∷ t) (Contains-permutation cs (next choice before) c turned (Contains-get_or cs i d within)) (Contains-map (λ tuple. c ∷ tuple) (tuples choice n (before ++ c ∷ [])) t first.among);
+            among =
+                Contains-flat_map below (next choice before) c (c ∷ t) (Contains-permutation cs (next choice before) c turned (Contains-get_or cs i d within))
+                (Contains-map (λ tuple. c ∷ tuple) (tuples choice n (before ++ c ∷ [])) t first.among);
             none_before = All-flat_map NotBefore below (next choice before)
-                (All-permutation (λ p. All NotBefore (below p)) cs (next choice before) turned (All-from_get_or (λ p. All NotBefore (below p)) cs d (each-place passed (same-place first.none_before))));
+                (All-permutation (λ p. All NotBefore (below p)) cs (next choice before) turned
+                (All-from_get_or (λ p. All NotBefore (below p)) cs d (each-place passed (same-place first.none_before))));
           }

@@ -1,5 +1,6 @@
 -- Gangs of a pool: what a search from nothing finds, and what more offers leave.
-use Rattle.std.proofs.Common.{◌≡◌, ◌<◌, ◌≤◌, ◌+◌, ◌*◌, ℕ, zero, suc, Bool, true, false, not, ◌&&◌, refl, List, [], ◌∷◌, ◌++◌, length, filter, Option, None, Some, slice_get, is_some, sum_by, All, ap, sym, ◌∙◌, subst, arith}
+use Rattle.std.proofs.Common.{◌≡◌, ◌<◌, ◌≤◌, ◌+◌, ◌*◌, ℕ, zero, suc, Bool, true, false, not, ◌&&◌, refl, List, [], ◌∷◌}
+use Rattle.std.proofs.Common.{◌++◌, length, filter, Option, None, Some, slice_get, is_some, sum_by, All, ap, sym, ◌∙◌, subst, arith}
 use Rattle.std.specs.List.{range_with_len}
 use Rattle.std.specs.Option.{option_map_or}
 use Rattle.std.proofs.lemmas.List.Elements.{All-cons, All-contains, All-filter, All-nil, filter_agree}
@@ -7,91 +8,49 @@ use Rattle.ad_tree.specs.Frames.{Frame}
 use Rattle.ad_tree.specs.declared.request.Port.{Port}
 use Rattle.ad_store.specs.Stock.{is_live}
 use Rattle.dock_match.specs.Pool.{Pool}
-use Rattle.eval_scope.specs.World.{PlainWorld, attribute_count, port_frame}
+use Rattle.eval_scope.specs.World.{attribute_count, port_frame}
 use Rattle.gang_ports.specs.Choice.{Choice, IsFirstOf, first_of, is_among, over_prefixes, tuples}
-use Rattle.gang_ports.specs.Gangs.{attributes_behind, attributes_open, choice_of, docks_open, evaluations_behind, free_places, gang, gang_world, is_free, is_open, open_docks, open_places}
+use Rattle.gang_ports.specs.Gangs.{attributes_behind, attributes_open, choice_of, docks_open, evaluations_behind, free_places, gang, gang_world, is_free}
+use Rattle.gang_ports.specs.Gangs.{is_open, open_docks, open_places}
 use Rattle.gang_ports.specs.declared.searching.Ending.{Ending}
-use Rattle.gang_ports.specs.declared.weighing.Side.{Side}
-use Rattle.gang_ports.specs.Search.{AreSides, IsBehind, Outcome, attributes_from, choice_in, evaluations_from, is_found}
+use Rattle.gang_ports.specs.Search.{Outcome}
 use Rattle.gang_ports.proofs.CountLemmas.{over-multiple}
 use Rattle.gang_ports.proofs.LawLemmas.{all-tuples, fewer, filter-turned, first-are, length-fewer, none-fewer, over-fewer, sum-fewer}
 use Rattle.gang_ports.proofs.ListLemmas.{filter-both}
 use Rattle.gang_ports.proofs.OrderLemmas.{first-is, first-none}
 
-pub is-found : (e : Ending) → is_found e ≡ true → e ≡ Ending.Found
-is-found Ending.Found found = refl
-is-found (Ending.NotFound many) found = absurd (cc)
-
 module _ (pool : Pool) (request : List Frame) (ports : List Port) where
   -- ---- from nothing on
 
-  pub gang-found : (n : ℕ) (places : List ℕ) → n ≡ length ports → Outcome (choice_of pool request ports) n [] places Ending.Found → gang pool request ports ≡ Some places
+  pub gang-found : (n : ℕ) (places : List ℕ) → n ≡ length ports → Outcome (choice_of pool request ports) n [] places Ending.Found
+      → gang pool request ports ≡ Some places
   gang-found n places many o =
-      let found : first_of (choice_of pool request ports) (tuples (choice_of pool request ports) n []) ≡ Some o.0 = first-is (choice_of pool request ports) (tuples (choice_of pool request ports) n []) o.0 o.2 in
+      let found : first_of (choice_of pool request ports) (tuples (choice_of pool request ports) n []) ≡ Some o.0 =
+      first-is (choice_of pool request ports) (tuples (choice_of pool request ports) n []) o.0 o.2 in
       ap (λ m. first_of (choice_of pool request ports) (tuples (choice_of pool request ports) m [])) (sym many) ∙ found ∙ ap Some (sym o.1)
 
   pub gang-none : (n : ℕ) → n ≡ length ports → tuples (choice_of pool request ports) n [] ≡ [] → gang pool request ports ≡ None
   gang-none n many none =
-      ap (λ m. first_of (choice_of pool request ports) (tuples (choice_of pool request ports) m [])) (sym many) ∙ first-none (choice_of pool request ports) (tuples (choice_of pool request ports) n []) none
+      ap (λ m. first_of (choice_of pool request ports) (tuples (choice_of pool request ports) m [])) (sym many)
+      ∙ first-none (choice_of pool request ports) (tuples (choice_of pool request ports) n []) none
 
   range-below : (k n m : ℕ) → k + n ≤ m → All (λ p. p < m) (range_with_len k n)
   range-below k zero m fits = All-nil (λ p. p < m)
   range-below k (suc n) m fits = All-cons (λ p. p < m) k (range_with_len (k + 1) n) (omega (arith, fits)) (range-below (k + 1) n m (omega (arith, fits)))
 
-  pub gang-within : (n m : ℕ) (places : List ℕ) → length pool.ads ≤ m → Outcome (choice_of pool request ports) n [] places Ending.Found → All (λ p. p < m) places
+  pub gang-within : (n m : ℕ) (places : List ℕ) → length pool.ads ≤ m → Outcome (choice_of pool request ports) n [] places Ending.Found
+      → All (λ p. p < m) places
   unfolding free_places
   gang-within n m places fits o =
       subst (All (λ p. p < m)) (sym o.1)
       (All-contains (λ t. All (λ p. p < m) t) (tuples (choice_of pool request ports) n []) o.0
-      (all-tuples (choice_of pool request ports) (λ p. p < m) (All-filter (is_free pool) (λ p. p < m) (range_with_len 0 (length pool.ads)) (range-below 0 (length pool.ads) m (omega (arith, fits)))) n [])
+      (all-tuples (choice_of pool request ports) (λ p. p < m)
+      (All-filter (is_free pool) (λ p. p < m) (range_with_len 0 (length pool.ads)) (range-below 0 (length pool.ads) m (omega (arith, fits)))) n [])
       o.2.among)
 
-  pub evaluations-total : over_prefixes (choice_of pool request ports) (evaluations_behind pool request ports) (length ports) [] ≡ 3 * docks_open pool request ports
+  pub evaluations-total : over_prefixes (choice_of pool request ports) (evaluations_behind pool request ports) (length ports) []
+      ≡ 3 * docks_open pool request ports
   evaluations-total = over-multiple (choice_of pool request ports) 3 (λ before. length (open_docks pool request ports before)) (length ports) []
-
-  -- ---- as the code has it: a world, the places before and the sides, of which there is another list
-
-  module _ (w : PlainWorld) (same : w ≡ gang_world pool request ports []) (before : List ℕ) (none : before ≡ []) where
-    pub starts : (sides others : List Side) → sides ≡ others → AreSides pool request ports 0 others → IsBehind pool w before sides
-    starts sides others is are =
-        subst (λ (u : PlainWorld). IsBehind pool u before sides) (sym same)
-        (subst (λ (b : List ℕ). IsBehind pool (gang_world pool request ports []) b sides) (sym none)
-        (record { world = refl; sides = subst (AreSides pool request ports 0) (sym is) are }))
-
-    outcome-of : (n : ℕ) (after : List ℕ) (e : Ending) → Outcome (choice_in pool w) n before after e → Outcome (choice_of pool request ports) n [] after e
-    outcome-of n after e o =
-        subst (λ (c : List ℕ). Outcome (choice_of pool request ports) n c after e) none
-        (subst (λ (u : PlainWorld). Outcome (choice_in pool u) n before after e) same o)
-
-    pub found-whole : (n : ℕ) (after : List ℕ) → n ≡ length ports → Outcome (choice_in pool w) n before after Ending.Found → gang pool request ports ≡ Some after
-    found-whole n after many o = gang-found n after many (outcome-of n after Ending.Found o)
-
-    pub none-whole : (n : ℕ) (after : List ℕ) (e : Ending) → n ≡ length ports → is_found e ≡ false → Outcome (choice_in pool w) n before after e → gang pool request ports ≡ None
-    none-whole n after e many none o = gang-none n many (by e none (outcome-of n after e o))
-      where
-        by : (e : Ending) → is_found e ≡ false → Outcome (choice_of pool request ports) n [] after e → tuples (choice_of pool request ports) n [] ≡ []
-        by Ending.Found none o = absurd (cc)
-        by (Ending.NotFound many) none o = o.1 [] refl refl
-
-    pub within-whole : (n m : ℕ) (after : List ℕ) → length pool.ads ≤ m → Outcome (choice_in pool w) n before after Ending.Found → All (λ p. p < m) after
-    within-whole n m after fits o = gang-within n m after fits (outcome-of n after Ending.Found o)
-
-    pub evaluations-whole : (n start tops : ℕ) → n ≡ length ports → tops ≤ start + evaluations_from pool w n before → tops ≤ start + 3 * docks_open pool request ports
-    evaluations-whole n start tops many step =
-        let total : evaluations_from pool w n before ≡ 3 * docks_open pool request ports =
-        ap (λ (u : PlainWorld). evaluations_from pool u n before) same
-        ∙ ap (over_prefixes (choice_of pool request ports) (evaluations_behind pool request ports) n) none
-        ∙ ap (λ (k : ℕ). over_prefixes (choice_of pool request ports) (evaluations_behind pool request ports) k []) many
-        ∙ evaluations-total in
-        subst (λ (k : ℕ). tops ≤ start + k) total step
-
-    pub attributes-whole : (n start entry : ℕ) → n ≡ length ports → entry ≤ start + attributes_from pool w n before → entry ≤ start + attributes_open pool request ports
-    attributes-whole n start entry many step =
-        let total : attributes_from pool w n before ≡ attributes_open pool request ports =
-        ap (λ (u : PlainWorld). attributes_from pool u n before) same
-        ∙ ap (over_prefixes (choice_of pool request ports) (attributes_behind pool request ports) n) none
-        ∙ ap (λ (k : ℕ). over_prefixes (choice_of pool request ports) (attributes_behind pool request ports) k []) many in
-        subst (λ (k : ℕ). entry ≤ start + k) total step
 
   -- ---- more offers
 
@@ -102,7 +61,8 @@ module _ (pool : Pool) (request : List Frame) (ports : List Port) where
     abbrev unoffered : ℕ → Bool
     unoffered place = not (offered place)
 
-    free-later : (live was now claimed : Bool) → (was ≡ true → now ≡ true) → (live && (not now && not claimed)) ≡ ((live && (not was && not claimed)) && not now)
+    free-later : (live was now claimed : Bool) → (was ≡ true → now ≡ true)
+        → (live && (not now && not claimed)) ≡ ((live && (not was && not claimed)) && not now)
     free-later false was now claimed more = refl
     free-later true true true claimed more = refl
     free-later true true false claimed more = absurd (cc (more refl))
@@ -121,12 +81,15 @@ module _ (pool : Pool) (request : List Frame) (ports : List Port) where
     unfolding free_places
     free-fewer =
         filter_agree (is_free later) (λ p. is_free pool p && unoffered p)
-        (λ p. free-later (option_map_or (is_live pool.moment) (slice_get pool.ads p) false) (pool.is_offered p) (offered p) (is_some (pool.held_in p)) (more p))
+        (λ p. free-later (option_map_or (is_live pool.moment) (slice_get pool.ads p) false) (pool.is_offered p) (offered p) (is_some (pool.held_in p))
+        (more p))
         (range_with_len 0 (length pool.ads))
         ∙ sym (filter-both (is_free pool) unoffered (range_with_len 0 (length pool.ads)))
 
     choice-fewer : choice_of later request ports ≡ fewer unoffered (choice_of pool request ports)
-    choice-fewer = ap (λ (free : List ℕ). let c : Choice = record { free = free; dock = (choice_of pool request ports).dock; rank = (choice_of pool request ports).rank } in c) free-fewer
+    choice-fewer =
+        ap (λ (free : List ℕ). let c : Choice =
+        record { free = free; dock = (choice_of pool request ports).dock; rank = (choice_of pool request ports).rank } in c) free-fewer
 
     docks-fewer : (before : List ℕ) → open_docks later request ports before ≡ filter unoffered (open_docks pool request ports before)
     unfolding open_docks open_places
@@ -141,9 +104,13 @@ module _ (pool : Pool) (request : List Frame) (ports : List Port) where
         let n = length ports in
         ap (λ c. first_of c (tuples c n [])) choice-fewer
         ∙ first-none (fewer unoffered (choice_of pool request ports)) (tuples (fewer unoffered (choice_of pool request ports)) n [])
-        (none-fewer unoffered (choice_of pool request ports) n [] (no-tuples (first_of (choice_of pool request ports) (tuples (choice_of pool request ports) n [])) none (first-are (choice_of pool request ports) (tuples (choice_of pool request ports) n []))))
+        (none-fewer unoffered (choice_of pool request ports) n []
+        (no-tuples (first_of (choice_of pool request ports) (tuples (choice_of pool request ports) n [])) none
+        (first-are (choice_of pool request ports) (tuples (choice_of pool request ports) n []))))
       where
-        no-tuples : (o : Option (List ℕ)) → o ≡ None → IsFirstOf (choice_of pool request ports) (tuples (choice_of pool request ports) (length ports) []) o → tuples (choice_of pool request ports) (length ports) [] ≡ []
+        no-tuples : (o : Option (List ℕ)) → o ≡ None
+            → IsFirstOf (choice_of pool request ports) (tuples (choice_of pool request ports) (length ports) []) o
+            → tuples (choice_of pool request ports) (length ports) [] ≡ []
         no-tuples None e h = h
         no-tuples (Some t) e h = absurd (cc)
 
@@ -153,7 +120,8 @@ module _ (pool : Pool) (request : List Frame) (ports : List Port) where
         let many = λ (before : List ℕ). length (open_docks pool request ports before) in
         subst (λ c. over_prefixes c few (length ports) [] ≤ docks_open pool request ports) (sym choice-fewer)
         (over-fewer unoffered (choice_of pool request ports) few many
-        (λ before. subst (λ ps. length ps ≤ length (open_docks pool request ports before)) (sym (docks-fewer before)) (length-fewer unoffered (open_docks pool request ports before))) (length ports) [])
+        (λ before. subst (λ ps. length ps ≤ length (open_docks pool request ports before)) (sym (docks-fewer before))
+        (length-fewer unoffered (open_docks pool request ports before))) (length ports) [])
 
     pub attributes-later : attributes_open later request ports ≤ attributes_open pool request ports
     attributes-later =
@@ -162,4 +130,5 @@ module _ (pool : Pool) (request : List Frame) (ports : List Port) where
         (λ before.
         let count = λ (p : ℕ). 3 * attribute_count (gang_world pool request ports (before ++ p ∷ [])) in
         let same : (p : ℕ) → count p ≤ count p = λ p. omega arith in
-        subst (λ ps. sum_by count ps ≤ sum_by count (open_docks pool request ports before)) (sym (docks-fewer before)) (sum-fewer unoffered count count same (open_docks pool request ports before))) (length ports) [])
+        subst (λ ps. sum_by count ps ≤ sum_by count (open_docks pool request ports before)) (sym (docks-fewer before))
+        (sum-fewer unoffered count count same (open_docks pool request ports before))) (length ports) [])

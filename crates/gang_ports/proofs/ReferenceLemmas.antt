@@ -1,5 +1,6 @@
 -- A label that is looked for in expressions, attributes and frames, one after another.
-use Rattle.std.proofs.Common.{◌≡◌, ◌<◌, ◌+◌, ℕ, zero, suc, Bool, true, false, ◌||◌, refl, List, [], ◌∷◌, length, drop, Option, None, Some, option_map, slice_get, ap, sym, ◌∙◌, arith}
+use Rattle.std.proofs.Common.{◌≡◌, ◌<◌, ◌+◌, ℕ, zero, suc, Bool, true, false, ◌||◌, refl, List, [], ◌∷◌, length, drop, Option, None}
+use Rattle.std.proofs.Common.{Some, option_map, slice_get, ap, sym, ◌∙◌, arith}
 use Rattle.std.specs.List.{list_any}
 use Rattle.ad_tree.specs.Frames.{Frame, attributes_at, attributes_in}
 use Rattle.ad_tree.specs.Tree.{Tree, pack}
@@ -20,24 +21,33 @@ module _ {X : Type 0} (p : X → Bool) (xs : List X) (i : ℕ) (whole : Bool) (s
 -- ---- expressions
 
 module _ (label : List ℕ) (ts : List Tree) (i : ℕ) (so_far : any_refers label (pack (drop i ts)) ≡ any_refers label (pack ts)) where
-  tree-at : (t : Tree) (b : Bool) → slice_get ts i ≡ Some t → refers label t ≡ b → (b || any_refers label (pack (drop (i + 1) ts))) ≡ any_refers label (pack ts)
+  tree-at : (t : Tree) (b : Bool) → slice_get ts i ≡ Some t → refers label t ≡ b
+      → (b || any_refers label (pack (drop (i + 1) ts))) ≡ any_refers label (pack ts)
   tree-at t b at e = ap (λ c. c || any_refers label (pack (drop (i + 1) ts))) (sym e) ∙ sym (ap (any_refers label) (pack-drop ts i t at)) ∙ so_far
 
   pub tree-found : (t : Tree) → slice_get ts i ≡ Some t → true ≡ refers label t → true ≡ any_refers label (pack ts)
   tree-found t at e = tree-at t true at (sym e)
 
-  pub tree-next : (t : Tree) → slice_get ts i ≡ Some t → false ≡ refers label t → any_refers label (pack (drop (i + 1) ts)) ≡ any_refers label (pack ts)
+  pub tree-next : (t : Tree) → slice_get ts i ≡ Some t → false ≡ refers label t
+      → any_refers label (pack (drop (i + 1) ts)) ≡ any_refers label (pack ts)
   tree-next t at e = tree-at t false at (sym e)
 
 -- ---- attributes
 
-module _ (label : List ℕ) (attributes : List (List ℕ × Tree)) (k : ℕ) (so_far : list_any (λ a. refers label a.1) (drop k attributes) ≡ list_any (λ a. refers label a.1) attributes) (t : Tree) (at : option_map (λ a. a.1) (slice_get attributes k) ≡ Some t) where
-  attribute-at : (b : Bool) → b ≡ refers label t → (b || list_any (λ a. refers label a.1) (drop (k + 1) attributes)) ≡ list_any (λ a. refers label a.1) attributes
+module _ (label : List ℕ) (attributes : List (List ℕ × Tree)) (k : ℕ)
+    (so_far : list_any (λ a. refers label a.1) (drop k attributes) ≡ list_any (λ a. refers label a.1) attributes) (t : Tree)
+    (at : option_map (λ a. a.1) (slice_get attributes k) ≡ Some t) where
+  attribute-at : (b : Bool) → b ≡ refers label t
+      → (b || list_any (λ a. refers label a.1) (drop (k + 1) attributes)) ≡ list_any (λ a. refers label a.1) attributes
   attribute-at b e = by (slice_get attributes k) refl at
     where
-      by : (o : Option (List ℕ × Tree)) → slice_get attributes k ≡ o → option_map (λ a. a.1) o ≡ Some t → (b || list_any (λ a. refers label a.1) (drop (k + 1) attributes)) ≡ list_any (λ a. refers label a.1) attributes
+      by : (o : Option (List ℕ × Tree)) → slice_get attributes k ≡ o → option_map (λ a. a.1) o ≡ Some t
+          → (b || list_any (λ a. refers label a.1) (drop (k + 1) attributes)) ≡ list_any (λ a. refers label a.1) attributes
       by None is found = absurd (cc)
-      by (Some a) is found = let same : a.1 ≡ t = cc in any-at (λ (c : List ℕ × Tree). refers label c.1) attributes k (list_any (λ c. refers label c.1) attributes) so_far a b is (ap (refers label) same ∙ sym e)
+      by (Some a) is found =
+          let same : a.1 ≡ t =
+          cc in any-at (λ (c : List ℕ × Tree). refers label c.1) attributes k (list_any (λ c. refers label c.1) attributes) so_far a b is
+          (ap (refers label) same ∙ sym e)
 
   pub attribute-found : true ≡ refers label t → true ≡ list_any (λ a. refers label a.1) attributes
   attribute-found e = attribute-at true e

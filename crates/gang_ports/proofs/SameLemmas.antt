@@ -1,5 +1,6 @@
 -- Pools that say the same of each place have the same gangs, and as many open docks.
-use Rattle.std.proofs.Common.{◌≡◌, ◌<◌, ◌≤◌, ◌+◌, ◌*◌, ℕ, zero, suc, Bool, false, not, ◌&&◌, cond, refl, List, [], ◌∷◌, filter, length, Option, slice_get, is_some, ap, ◌∙◌, arith}
+use Rattle.std.proofs.Common.{◌≡◌, ◌<◌, ◌≤◌, ◌+◌, ◌*◌, ℕ, zero, suc, Bool, false, not, ◌&&◌, cond, refl, List, [], ◌∷◌}
+use Rattle.std.proofs.Common.{filter, length, Option, slice_get, is_some, ap, ◌∙◌, arith}
 use Rattle.std.specs.List.{range_with_len}
 use Rattle.std.specs.Option.{option_map_or}
 use Rattle.ad_tree.specs.Frames.{Frame}
@@ -14,7 +15,8 @@ use Rattle.gang_ports.proofs.ListLemmas.{sum_by-same}
 
 -- ---- places of a range
 
-filter-within : (p q : ℕ → Bool) (k n m : ℕ) → k + n ≤ m → ((i : ℕ) → i < m → p i ≡ q i) → filter p (range_with_len k n) ≡ filter q (range_with_len k n)
+filter-within : (p q : ℕ → Bool) (k n m : ℕ) → k + n ≤ m → ((i : ℕ) → i < m → p i ≡ q i)
+    → filter p (range_with_len k n) ≡ filter q (range_with_len k n)
 filter-within p q k zero m fits same = refl
 filter-within p q k (suc n) m fits same =
     ap (λ b. cond b (k ∷ filter p (range_with_len (k + 1) n)) (filter p (range_with_len (k + 1) n))) (same k (omega (arith, fits)))
@@ -42,14 +44,17 @@ module _ (moment : ℕ) (ads : List Advert) (off_a off_b : ℕ → Bool) (held_a
 
     module _ (request : List Frame) (ports : List Port) where
       choice-same : choice_of one request ports ≡ choice_of other request ports
-      choice-same = ap (λ (free : List ℕ). let c : Choice = record { free = free; dock = (choice_of one request ports).dock; rank = (choice_of one request ports).rank } in c) free-same
+      choice-same =
+          ap (λ (free : List ℕ). let c : Choice =
+          record { free = free; dock = (choice_of one request ports).dock; rank = (choice_of one request ports).rank } in c) free-same
 
       pub gang-same : gang one request ports ≡ gang other request ports
       gang-same = ap (λ c. first_of c (tuples c (length ports) [])) choice-same
 
       behind-same : (before : List ℕ) → open_docks one request ports before ≡ open_docks other request ports before
       unfolding open_docks open_places
-      behind-same before = ap (λ free. filter (λ p. not (is_among before p)) (filter (is_open one request ports (port_frame ports (suc (length before)))) free)) free-same
+      behind-same before =
+          ap (λ free. filter (λ p. not (is_among before p)) (filter (is_open one request ports (port_frame ports (suc (length before)))) free)) free-same
 
       pub docks-same : docks_open one request ports ≡ docks_open other request ports
       docks-same = λ i. over_prefixes (choice-same i) (λ before. length (behind-same before i)) (length ports) []
@@ -58,7 +63,8 @@ module _ (moment : ℕ) (ads : List Advert) (off_a off_b : ℕ → Bool) (held_a
       weighed-at-same : (i : ℕ) → weighed_at one request ports i ≡ weighed_at other request ports i
       unfolding weighed_at open_places
       weighed-at-same i =
-          λ j. length (filter (is_open one request ports (port_frame ports (suc i))) (free-same j)) * (cond (is_free_port request ports i) 1 (length (tuples (choice-same j) i [])))
+          λ j. length (filter (is_open one request ports (port_frame ports (suc i))) (free-same j)) *
+          (cond (is_free_port request ports i) 1 (length (tuples (choice-same j) i [])))
 
       pub weighed-same : docks_weighed one request ports ≡ docks_weighed other request ports
       weighed-same = sum_by-same (weighed_at one request ports) (weighed_at other request ports) weighed-at-same (range_with_len 0 (length ports))

@@ -1,5 +1,6 @@
 -- A port that is spent by the first of the places before it: no tuple leads through it while these stay.
-use Rattle.std.proofs.Common.{◌≡◌, ◌<◌, ◌≤◌, ◌==◌, ◌&&◌, ◌||◌, ◌∷◌, ◌++◌, ℕ, suc, Bool, true, false, not, if◌then◌else◌, List, [], All, None, Some, drop, filter, get_or, length, map, take, refl, ap, sym, ◌∙◌, subst, arith}
+use Rattle.std.proofs.Common.{◌≡◌, ◌<◌, ◌≤◌, ◌==◌, ◌&&◌, ◌||◌, ◌∷◌, ◌++◌, ℕ, suc, Bool, true, false, not}
+use Rattle.std.proofs.Common.{if◌then◌else◌, List, [], All, None, Some, drop, filter, get_or, length, map, take, refl, ap, sym, ◌∙◌, subst, arith}
 use Rattle.std.specs.List.{flat_map, list_all}
 use Rattle.std.proofs.lemmas.List.{take-append-drop, take-append-le, take_all}
 use Rattle.std.proofs.lemmas.List.Folds.{list_any-append}
@@ -53,7 +54,9 @@ module _ (pool : Pool) (request : List Frame) (ports : List Port) where
 
   no-fit : (before : List ℕ) (place : ℕ) → worth (gang_world pool request ports (before ++ place ∷ [])) ≡ None → fits choice before place ≡ false
   unfolding fits
-  no-fit before place none = by (not (is_among before place)) (is_docked (gang_world pool request ports (before ++ place ∷ []))) (not-docked (gang_world pool request ports (before ++ place ∷ [])) none)
+  no-fit before place none =
+      by (not (is_among before place)) (is_docked (gang_world pool request ports (before ++ place ∷ [])))
+      (not-docked (gang_world pool request ports (before ++ place ∷ [])) none)
     where
       by : (a b : Bool) → b ≡ false → (a && b) ≡ false
       by true b e = e
@@ -63,7 +66,8 @@ module _ (pool : Pool) (request : List Frame) (ports : List Port) where
   unfolding fits
   taken before place among = ap (λ (b : Bool). not b && choice.dock before place) among
 
-  module _ (before : List ℕ) (side : Side) (is : IsSide pool request ports (length before) side) (many : ℕ) (free : side.is_free ≡ true) (none : list_all (λ (r : Resource). is_undocked r.kept || is_among (take many before) r.place) side.resources.items ≡ true) where
+  module _ (before : List ℕ) (side : Side) (is : IsSide pool request ports (length before) side) (many : ℕ) (free : side.is_free ≡ true)
+      (none : list_all (λ (r : Resource). is_undocked r.kept || is_among (take many before) r.place) side.resources.items ≡ true) where
     abbrev resources : List Resource
     resources = side.resources.items
 
@@ -72,12 +76,14 @@ module _ (pool : Pool) (request : List Frame) (ports : List Port) where
         let asked = open_places pool request ports (port_frame ports (suc (length before))) in
         sym (next-open pool request ports before)
         ∙ filter-none (fits choice before) asked
-        (All-permutation (λ (p : ℕ). fits choice before p ≡ false) (map (λ (r : Resource). r.place) resources) asked (IsPermutation-sym asked (map (λ (r : Resource). r.place) resources) is.resources.all)
+        (All-permutation (λ (p : ℕ). fits choice before p ≡ false) (map (λ (r : Resource). r.place) resources) asked
+        (IsPermutation-sym asked (map (λ (r : Resource). r.place) resources) is.resources.all)
         (All-map (λ (p : ℕ). fits choice before p ≡ false) (λ (r : Resource). r.place) resources (λ k d within. unfit k d within)))
       where
         unfit : (k : ℕ) (d : Resource) → k < length resources → fits choice before (get_or resources k d).place ≡ false
         unfit k d within =
-            by (is_undocked r.kept) (is_among (take many before) r.place) refl refl (AllPass-from_list_all (λ (q : Resource). is_undocked q.kept || is_among (take many before) q.place) resources none k d within)
+            by (is_undocked r.kept) (is_among (take many before) r.place) refl refl
+            (AllPass-from_list_all (λ (q : Resource). is_undocked q.kept || is_among (take many before) q.place) resources none k d within)
           where
             r : Resource
             r = get_or resources k d
@@ -85,7 +91,8 @@ module _ (pool : Pool) (request : List Frame) (ports : List Port) where
             world : PlainWorld
             world = gang_world pool request ports before
 
-            by : (a b : Bool) → is_undocked r.kept ≡ a → is_among (take many before) r.place ≡ b → (a || b) ≡ true → fits choice before r.place ≡ false
+            by : (a b : Bool) → is_undocked r.kept ≡ a → is_among (take many before) r.place ≡ b → (a || b) ≡ true
+                → fits choice before r.place ≡ false
             by true b undocked among e =
                 no-fit before r.place
                 (sym (ap worth (ap (with_docked world) (is.resources.ads k d within) ∙ gang-with pool request ports before r.place))
@@ -94,7 +101,8 @@ module _ (pool : Pool) (request : List Frame) (ports : List Port) where
             by false false undocked among e = absurd (cc)
 
   -- where a port is spent by the first places there is no tuple behind them
-  pub spent-here : (n : ℕ) (before : List ℕ) (side : Side) → IsSide pool request ports (length before) side → (many : ℕ) → is_spent (take many before) side ≡ true → HasNoTuples choice (suc n) before many
+  pub spent-here : (n : ℕ) (before : List ℕ) (side : Side) → IsSide pool request ports (length before) side → (many : ℕ)
+      → is_spent (take many before) side ≡ true → HasNoTuples choice (suc n) before many
   unfolding tuples
   spent-here n before side is many e = λ other long same.
       let spent : is_spent (take many other) side ≡ true = ap (λ (ps : List ℕ). is_spent ps side) same ∙ e in

@@ -1,5 +1,6 @@
 -- Resources as they are weighed again: which candidates they are, what that takes, and what is kept of them.
-use Rattle.std.proofs.Common.{◌≡◌, ◌≤◌, ◌+◌, ℕ, Bool, true, false, if◌then◌else◌, refl, List, [], ◌∷◌, map, sum_by, Option, None, option_map, All, ap, sym, ◌∙◌, subst, arith, ℤ}
+use Rattle.std.proofs.Common.{◌≡◌, ◌≤◌, ◌+◌, ℕ, Bool, true, false, if◌then◌else◌, refl, List, [], ◌∷◌, map, sum_by, Option, None}
+use Rattle.std.proofs.Common.{option_map, All, ap, sym, ◌∙◌, subst, arith, ℤ}
 use Rattle.std.specs.List.{cons_option, filter_map}
 use Rattle.std.proofs.lemmas.List.Elements.{All-head, All-map, All-tail}
 use Rattle.std.proofs.lemmas.List.Sums.{sum_by-cons, sum_by-le-sum_by}
@@ -11,7 +12,8 @@ use Rattle.gang_ports.specs.declared.weighing.Kept.{Kept}
 use Rattle.gang_ports.specs.declared.weighing.Resource.{Resource}
 use Rattle.gang_ports.specs.declared.weighing.Side.{Side}
 use Rattle.gang_ports.specs.Choice.{is_among}
-use Rattle.gang_ports.specs.Search.{IsWorth, attributes_of, candidate_in, candidate_of, evaluations_ahead, evaluations_in, evaluations_of, forgotten, is_unknown, kept_in, rank_kept, remembered, weighed, weighed_in, worth}
+use Rattle.gang_ports.specs.Search.{IsWorth, attributes_of, candidate_in, candidate_of, evaluations_ahead, evaluations_in, evaluations_of, forgotten}
+use Rattle.gang_ports.specs.Search.{is_unknown, kept_in, rank_kept, remembered, weighed, weighed_in, worth}
 use Rattle.gang_ports.proofs.ListLemmas.{sum_by-map}
 
 module _ (w : PlainWorld) (before : List ℕ) where
@@ -41,7 +43,8 @@ module _ (w : PlainWorld) (before : List ℕ) where
   forgotten-same [] = refl
   forgotten-same (r ∷ rs) = ap (cons_option (candidate_of w before r)) (forgotten-same rs)
 
-  pub remembered-weighed : (free : Bool) (rs : List Resource) → (free ≡ true → All IsRight rs) → filter_map (candidate_in w before) (remembered free rs) ≡ weighed w before rs
+  pub remembered-weighed : (free : Bool) (rs : List Resource) → (free ≡ true → All IsRight rs)
+      → filter_map (candidate_in w before) (remembered free rs) ≡ weighed w before rs
   unfolding weighed
   remembered-weighed true rs right = known-same rs (right refl)
   remembered-weighed false rs right = forgotten-same rs
@@ -70,16 +73,20 @@ module _ (w : PlainWorld) (before : List ℕ) where
   ahead-less : (r : Resource) → evaluations_in before r + evaluations_ahead (weighed_in w before r) ≡ evaluations_ahead r
   ahead-less r = by (is_among before r.place)
     where
-      once : (kept : Kept) → (if is_unknown kept then 3 else 0) + (if is_unknown (kept_in w (ad_frames r.ad.now) kept) then 3 else 0) ≡ (if is_unknown kept then 3 else 0)
+      once : (kept : Kept)
+          → (if is_unknown kept then 3 else 0) + (if is_unknown (kept_in w (ad_frames r.ad.now) kept) then 3 else 0) ≡ (if is_unknown kept then 3 else 0)
       once Kept.Unknown = refl
       once (Kept.Weighed rank) = refl
 
       by : (among : Bool)
-          → (if among then 0 else if is_unknown r.kept then 3 else 0) + evaluations_ahead (if among then r else record { place = r.place; ad = r.ad; sides = r.sides; kept = kept_in w (ad_frames r.ad.now) r.kept }) ≡ evaluations_ahead r
+          → (if among then 0 else if is_unknown r.kept then 3 else 0)
+          + evaluations_ahead (if among then r else record { place = r.place; ad = r.ad; sides = r.sides; kept = kept_in w (ad_frames r.ad.now) r.kept })
+          ≡ evaluations_ahead r
       by true = omega arith
       by false = once r.kept
 
-  pub weighed-ahead : (rs : List Resource) → sum_by (evaluations_in before) rs + sum_by evaluations_ahead (map (weighed_in w before) rs) ≡ sum_by evaluations_ahead rs
+  pub weighed-ahead : (rs : List Resource)
+      → sum_by (evaluations_in before) rs + sum_by evaluations_ahead (map (weighed_in w before) rs) ≡ sum_by evaluations_ahead rs
   weighed-ahead [] = refl
   weighed-ahead (r ∷ rs) =
       omega (
@@ -94,7 +101,8 @@ module _ (w : PlainWorld) (before : List ℕ) where
   -- ---- what is kept
 
   -- what holds of a resource whatever is kept of it
-  module _ (P : Resource → Type 0) (whatever : (r : Resource) (kept : Kept) → P r → P (record { place = r.place; ad = r.ad; sides = r.sides; kept = kept })) where
+  module _ (P : Resource → Type 0) (whatever : (r : Resource) (kept : Kept) → P r
+      → P (record { place = r.place; ad = r.ad; sides = r.sides; kept = kept })) where
     weighed-holds : (r : Resource) → P r → P (weighed_in w before r)
     weighed-holds r h = by (is_among before r.place)
       where
@@ -114,14 +122,17 @@ module _ (w : PlainWorld) (before : List ℕ) where
     asked-hold free rs now asked same is h = subst (All P) (ap (remembered free) (sym same) ∙ sym is) (remembered-hold free rs h)
 
     -- once they are weighed
-    pub kept-hold : (side new : Side) → new.resources.items ≡ map (weighed_in w before) (remembered side.is_free side.resources.items) → All P side.resources.items → All P new.resources.items
+    pub kept-hold : (side new : Side) → new.resources.items ≡ map (weighed_in w before) (remembered side.is_free side.resources.items)
+        → All P side.resources.items → All P new.resources.items
     kept-hold side new kept h =
         subst (All P) (sym kept) (weighed-hold (remembered side.is_free side.resources.items) (remembered-hold side.is_free side.resources.items h))
 
   place-same : (r : Resource) → (weighed_in w before r).place ≡ r.place
   place-same r = by (is_among before r.place)
     where
-      by : (among : Bool) → (let q : Resource = if among then r else record { place = r.place; ad = r.ad; sides = r.sides; kept = kept_in w (ad_frames r.ad.now) r.kept } in q.place) ≡ r.place
+      by : (among : Bool)
+          → (let q : Resource =
+          if among then r else record { place = r.place; ad = r.ad; sides = r.sides; kept = kept_in w (ad_frames r.ad.now) r.kept } in q.place) ≡ r.place
       by true = refl
       by false = refl
 
@@ -134,6 +145,7 @@ module _ (w : PlainWorld) (before : List ℕ) where
   forgotten-places [] = refl
   forgotten-places (r ∷ rs) = ap (λ ps. r.place ∷ ps) (forgotten-places rs)
 
-  pub remembered-places : (free : Bool) (rs : List Resource) → map (λ (r : Resource). r.place) (map (weighed_in w before) (remembered free rs)) ≡ map (λ (r : Resource). r.place) rs
+  pub remembered-places : (free : Bool) (rs : List Resource)
+      → map (λ (r : Resource). r.place) (map (weighed_in w before) (remembered free rs)) ≡ map (λ (r : Resource). r.place) rs
   remembered-places true rs = weighed-places rs
   remembered-places false rs = weighed-places (map forgotten rs) ∙ forgotten-places rs

@@ -1,5 +1,6 @@
 -- Distinct places chosen one after another: which tuples of them there are, which tuple is the first, and sums over the prefixes of tuples.
-use Rattle.std.specs.Prelude.{◌≡◌, ℕ, zero, suc, ◌+◌, ℤ, Bool, ◌==◌, ◌&&◌, not, false, List, [], ◌∷◌, ◌++◌, filter, map, sum_by, Option, None, Some, All, Contains, if◌then◌else◌}
+use Rattle.std.specs.Prelude.{◌≡◌, ℕ, zero, suc, ◌+◌, ℤ, Bool, ◌==◌, ◌&&◌, not, false, List, [], ◌∷◌, ◌++◌, filter, map, sum_by}
+use Rattle.std.specs.Prelude.{Option, None, Some, All, Contains, if◌then◌else◌}
 use Rattle.std.specs.List.{flat_map, list_any}
 use Rattle.std.specs.Ordering.{int_cmp, is_lt, nat_cmp, ordering_then}
 use Rattle.std.specs.declared.cmp.Ordering.{Ordering}

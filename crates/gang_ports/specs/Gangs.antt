@@ -1,5 +1,6 @@
 -- Gangs: which resources of a pool the ports of a request are given.
-use Rattle.std.specs.Prelude.{ℕ, suc, ◌*◌, Bool, ◌&&◌, not, false, List, [], ◌∷◌, ◌++◌, filter, length, map, slice_get, sum_by, Option, is_some, if◌then◌else◌}
+use Rattle.std.specs.Prelude.{ℕ, suc, ◌*◌, Bool, ◌&&◌, not, false, List, [], ◌∷◌, ◌++◌, filter, length, map, slice_get, sum_by, Option}
+use Rattle.std.specs.Prelude.{is_some, if◌then◌else◌}
 use Rattle.std.specs.List.{range_with_len}
 use Rattle.std.specs.Option.{option_map_or}
 use Rattle.ad_tree.specs.Frames.{Frame}

@@ -1,5 +1,6 @@
 -- What a search for a gang goes through, and what it makes of a prefix.
-use Rattle.std.specs.Prelude.{◌≡◌, ℕ, suc, ◌+◌, ◌*◌, ℤ, Bool, ◌==◌, ◌&&◌, ◌||◌, nat_le, true, false, List, [], ◌∷◌, ◌++◌, length, map, sum_by, take, Option, None, Some, option_map, All, if◌then◌else◌}
+use Rattle.std.specs.Prelude.{◌≡◌, ◌≤◌, ℕ, suc, ◌+◌, ◌*◌, ℤ, Bool, ◌==◌, ◌&&◌, ◌||◌, nat_le, true, false, List, []}
+use Rattle.std.specs.Prelude.{◌∷◌, ◌++◌, length, map, sum_by, take, Option, None, Some, option_map, All, if◌then◌else◌}
 use Rattle.std.specs.List.{filter_map, list_all, list_any}
 use Rattle.std.specs.List.Sorted.{IsPermutation}
 use Rattle.std.specs.Ordering.{int_cmp, nat_cmp, ordering_then}
@@ -69,7 +70,8 @@ rank_kept (Kept.Weighed rank) = rank
 
 -- a resource is weighed where it isn't docked yet and nothing is known of it
 abbrev pub weighed_in : PlainWorld → List ℕ → Resource → Resource
-weighed_in w before r = if is_among before r.place then r else record { place = r.place; ad = r.ad; sides = r.sides; kept = kept_in w (ad_frames r.ad.now) r.kept }
+weighed_in w before r =
+    if is_among before r.place then r else record { place = r.place; ad = r.ad; sides = r.sides; kept = kept_in w (ad_frames r.ad.now) r.kept }
 
 -- the candidate that it then is
 abbrev pub candidate_in : PlainWorld → List ℕ → Resource → Option Candidate
@@ -171,7 +173,8 @@ is_over depth (Ending.NotFound many) = nat_le many depth
 
 -- no n more places follow as many places that begin with this many of these
 abbrev pub HasNoTuples : Choice → ℕ → List ℕ → ℕ → Type 0
-HasNoTuples choice n before many = (other : List ℕ) → length other ≡ length before → take many other ≡ take many before → tuples choice n other ≡ []
+HasNoTuples choice n before many =
+    (other : List ℕ) → length other ≡ length before → take many other ≡ take many before → tuples choice n other ≡ []
 
 -- the places before it stay the first, and the first tuple of n more is added to them, or there is none
 abbrev pub Outcome : Choice → ℕ → List ℕ → List ℕ → Ending → Type 0
@@ -192,3 +195,14 @@ evaluations_anew pool w before = if is_free_port w.request w.ports (length befor
 -- the evaluations that are ahead: of each unknown resource of a free port once, and at any other port behind each prefix
 abbrev pub evaluations_once : Pool → PlainWorld → List ℕ → List Side → ℕ
 evaluations_once pool w before sides = sides_ahead sides + over_prefixes (choice_in pool w) (evaluations_anew pool w) (length sides) before
+
+-- a search behind a prefix takes no more than this, from these counts of evaluations and of attributes on to those
+pub record Takes (pool : Pool) (w : PlainWorld) (before : List ℕ) (sides : List Side) (tops entry tops_then entry_then : ℕ) : Type 0 where
+  pub evaluations : tops_then ≤ tops + evaluations_from pool w (length sides) before
+  pub once : tops_then ≤ tops + evaluations_once pool w before sides
+  pub entries : entry_then ≤ entry + attributes_from pool w (length sides) before
+
+-- it leaves the sides of the same ports, and what is ahead of them then is part of what it may take
+pub record Leaves (pool : Pool) (w : PlainWorld) (before : List ℕ) (sides : List Side) (tops tops_then : ℕ) (left : List Side) : Type 0 where
+  pub are : AreSides pool w.request w.ports (length before) left
+  pub ahead : tops_then + sides_ahead left ≤ tops + evaluations_once pool w before sides

@@ -12,6 +12,7 @@ ghost use Rattle.gang_ports.specs.Gangs.{attributes_open, docks_open, docks_weig
 ghost use Rattle.gang_ports.specs.Ports.{ports_of};
 
 use crate::reading::{has_empty, read_sides};
+use crate::scene::Scene;
 use crate::searching::search;
 use ad_store::{Holdings, Store};
 use ad_tree::Request;
@@ -61,7 +62,14 @@ pub fn first_gang<H: Holdings, F: Ledger, E: Ledger, T: Ledger>(
         → tops.new ≡ tops.old }
     ensures looks { touch.new ≤ touch.old + looks_most (stock_of store.now).ads (ad_frames request.now.ad) request.now.ports }
 {
-    let mut sides = read_sides(alloc, store, index, held, request, moment, touch)?;
+    let scene = Scene {
+        alloc,
+        store,
+        index,
+        held,
+        moment,
+    };
+    let mut sides = read_sides(&scene, request, touch)?;
     if has_empty(sides.as_slice()) {
         return Ok(None);
     }

@@ -6,6 +6,7 @@ mod gangs;
 mod laws;
 mod ports;
 mod reading;
+mod scene;
 mod searching;
 mod weighing;
 

@@ -3,7 +3,7 @@ ghost use Rattle.std.specs.Prelude.{◌≤◌, ◌<◌, ◌+◌, ◌*◌, ◌≡
 ghost use Rattle.eval_scope.specs.Shown.{world_of};
 ghost use Rattle.ad_eval.specs.Small.{AreSmall};
 ghost use Rattle.dock_match.specs.Pool.{Pool};
-ghost use Rattle.gang_ports.specs.Search.{AreSides, HaveSides, IsBehind, Outcome, attributes_from, choice_in, evaluations_from, evaluations_once, is_found, is_over, is_spent, sides_ahead};
+ghost use Rattle.gang_ports.specs.Search.{HaveSides, IsBehind, Leaves, Outcome, Takes, choice_in, is_found, is_over, is_spent};
 ghost use Rattle.gang_ports.specs.Small.{AreSmallSides};
 
 use crate::weighing::{Side, candidates, is_spent};
@@ -59,16 +59,10 @@ pub fn search<'a, F: Ledger, E: Ledger>(
     requires tests { HaveSides (world_of world.now).request (world_of world.now).ports (length (world_of world.now).docked) sides.old }
     ensures outcome { IfOk result (λ ending. (pool : Pool) → IsBehind pool (world_of world.now) before.old.items sides.old
         → Outcome (choice_in pool (world_of world.now)) (length sides.old) before.old.items before.new.items ending) }
-    ensures sides { OnOk result ((pool : Pool) → IsBehind pool (world_of world.now) before.old.items sides.old
-        → AreSides pool (world_of world.now).request (world_of world.now).ports (length before.old.items) sides.new) }
-    ensures evaluations { (pool : Pool) → IsBehind pool (world_of world.now) before.old.items sides.old
-        → tops.new ≤ tops.old + evaluations_from pool (world_of world.now) (length sides.old) before.old.items }
-    ensures once { (pool : Pool) → IsBehind pool (world_of world.now) before.old.items sides.old
-        → tops.new ≤ tops.old + evaluations_once pool (world_of world.now) before.old.items sides.old }
-    ensures ahead { OnOk result ((pool : Pool) → IsBehind pool (world_of world.now) before.old.items sides.old
-        → tops.new + sides_ahead sides.new ≤ tops.old + evaluations_once pool (world_of world.now) before.old.items sides.old) }
-    ensures entries { (pool : Pool) → IsBehind pool (world_of world.now) before.old.items sides.old
-        → entry.new ≤ entry.old + attributes_from pool (world_of world.now) (length sides.old) before.old.items }
+    ensures left { OnOk result ((pool : Pool) → IsBehind pool (world_of world.now) before.old.items sides.old
+        → Leaves pool (world_of world.now) before.old.items sides.old tops.old tops.new sides.new) }
+    ensures taken { (pool : Pool) → IsBehind pool (world_of world.now) before.old.items sides.old
+        → Takes pool (world_of world.now) before.old.items sides.old tops.old entry.old tops.new entry.new }
     ensures small { OnOk result (AreSmallSides sides.old → AreSmallSides sides.new) }
     ensures tests { OnOk result (HaveSides (world_of world.now).request (world_of world.now).ports (length (world_of world.now).docked) sides.new) }
     ensures ratio { AreSmall (world_of world.now) → AreSmallSides sides.old → entry.new + 9216 * tops.old ≤ entry.old + 9216 * tops.new }

@@ -9,7 +9,8 @@ ghost use Rattle.eval_scope.specs.World.{attribute_count};
 ghost use Rattle.ad_eval.specs.Small.{AreSmall};
 ghost use Rattle.dock_match.specs.Docks.{last_open};
 ghost use Rattle.gang_ports.specs.Choice.{is_among};
-ghost use Rattle.gang_ports.specs.Search.{HasSidesIn, attributes_of, candidate_in, candidate_order, evaluations_in, forgotten, is_spent, is_undocked, remembered, weighed_in, worth};
+ghost use Rattle.gang_ports.specs.Search.{HasSidesIn, attributes_of, candidate_in, candidate_order, evaluations_in, forgotten, is_spent, is_undocked};
+ghost use Rattle.gang_ports.specs.Search.{remembered, weighed_in, worth};
 ghost use Rattle.gang_ports.specs.Small.{AreSmallResources};
 
 use ad_eval::rank;
@@ -67,10 +68,12 @@ pub fn candidates<'a, F: Ledger, E: Ledger>(
 ) -> Result<Vec<Candidate<'a>>, OutOfMemory>
     requires room { length (world_of world.now).docked < 8 }
     requires tests { All (HasSidesIn (world_of world.now)) side.old.resources.items }
-    ensures all { IfOk result (λ tries. IsPermutation (filter_map (candidate_in (world_of world.now) before.now) (remembered side.old.is_free side.old.resources.items)) tries.items) }
+    ensures all { IfOk result (λ tries. IsPermutation (filter_map (candidate_in (world_of world.now) before.now)
+        (remembered side.old.is_free side.old.resources.items)) tries.items) }
     ensures ordered { IfOk result (λ tries. IsSorted candidate_order tries.items) }
     ensures free { side.new.is_free ≡ side.old.is_free }
-    ensures kept { OnOk result (side.new.resources.items ≡ map (weighed_in (world_of world.now) before.now) (remembered side.old.is_free side.old.resources.items)) }
+    ensures kept { OnOk result (side.new.resources.items
+        ≡ map (weighed_in (world_of world.now) before.now) (remembered side.old.is_free side.old.resources.items)) }
     ensures evaluations { tops.new ≤ tops.old + sum_by (evaluations_in before.now) (remembered side.old.is_free side.old.resources.items) }
     ensures entries { entry.new ≤ entry.old + sum_by (attributes_of (world_of world.now) before.now) (remembered side.old.is_free side.old.resources.items) }
     ensures ratio { AreSmall (world_of world.now) → AreSmallResources side.old.resources.items → entry.new + 9216 * tops.old ≤ entry.old + 9216 * tops.new }
@@ -149,31 +152,31 @@ fn weigh_all<'a, F: Ledger, E: Ledger>(
 {
     let mut tries = Vec::new(alloc);
     for resource in resources.iter_mut() {
-        weigh(alloc, world, before, resource, &mut tries, tops, entry)?;
+        let found = weigh(alloc, world, before, resource, tops, entry)?;
+        keep(&mut tries, found)?;
     }
     Ok(tries)
 }
 
-// Adds the candidate that a resource is, if it docks. One that is docked already isn't weighed, and no other is weighed again.
+// The candidate that a resource is, if it docks. One that is docked already isn't weighed, and no other is weighed again.
 fn weigh<'a, F: Ledger, E: Ledger>(
     alloc: Global,
     world: &World<'a>,
     before: &[usize],
     resource: &mut Resource<'a>,
-    tries: &mut Vec<Candidate<'a>>,
     tops: &mut Steps<F>,
     entry: &mut Steps<E>,
-) -> Result<(), OutOfMemory>
+) -> Result<Option<Candidate<'a>>, OutOfMemory>
     requires room { length (world_of world.now).docked < 8 }
     requires tests { HasSidesIn (world_of world.now) resource.old }
-    ensures found { OnOk result (tries.new.items ≡ tries.old.items ++ cons_option (candidate_in (world_of world.now) before.now resource.old) []) }
+    ensures found { IfOk result (λ found. found ≡ candidate_in (world_of world.now) before.now resource.old) }
     ensures kept { OnOk result (resource.new ≡ weighed_in (world_of world.now) before.now resource.old) }
     ensures evaluations { tops.new ≤ tops.old + evaluations_in before.now resource.old }
     ensures entries { entry.new ≤ entry.old + attributes_of (world_of world.now) before.now resource.old }
     ensures ratio { AreSmall (world_of world.now) → IsSmall (ad_frames resource.old.ad.now) → entry.new + 9216 * tops.old ≤ entry.old + 9216 * tops.new }
 {
     if is_among(before, resource.place) {
-        return Ok(());
+        return Ok(None);
     }
     let rank = match resource.kept {
         Kept::Weighed(rank) => rank,
@@ -182,7 +185,7 @@ fn weigh<'a, F: Ledger, E: Ledger>(
         }
     };
     resource.kept = Kept::Weighed(rank);
-    keep(tries, ranked(resource, rank))
+    Ok(ranked(resource, rank))
 }
 
 // The candidate that a resource is at a rank, if it has one.

@@ -1,39 +1,69 @@
 -- What stands in keys, and that requests with equal keys have the same trees under the names that are reached.
-use Rattle.std.proofs.Common.{◌≡◌, ◌≤◌, ◌<◌, ℕ, zero, suc, ◌+◌, Bool, true, false, cond, true≢false, List, [], ◌∷◌, length, get_or, map, position, Option, None, Some, slice_get, Contains, Ok, refl, sym, ◌∙◌, ap, subst, arith, ◌⊎◌, inl, inr}
+use Rattle.std.proofs.Common.{◌≡◌, ◌≤◌, ◌<◌, ℕ, zero, suc, ◌+◌, Bool, true, false, cond, List, [], ◌∷◌, length, get_or, position}
+use Rattle.std.proofs.Common.{Option, None, Some, slice_get, Contains, Ok, refl, sym, ◌∙◌, ap, subst, arith, ◌⊎◌, inl, inr}
 use Rattle.std.specs.Prelude.{◌↔◌}
-use Rattle.std.specs.List.{cons_option, flat_map, position_or_len, filter_map}
+use Rattle.std.specs.List.{cons_option, flat_map, filter_map}
 use Rattle.std.specs.Ordering.{is_lt, nat_cmp}
 use Rattle.std.specs.Cmp.Lexicographic.{slice_cmp}
-use Rattle.std.proofs.lemmas.Grind.{common_steps}
 use Rattle.std.proofs.lemmas.List.{length-map}
 use Rattle.std.proofs.lemmas.List.Elements.{Contains-append_left, Contains-append_right}
 use Rattle.std.proofs.lemmas.List.Quantifiers.{position-Some}
-use Rattle.std.proofs.lemmas.List.Sums.{fails_before_first}
 use Rattle.pool_text.specs.Folding.{folded}
 use Rattle.builtin_funcs.proofs.AlikeLemmas.{Both, both_none, both_some}
 use Rattle.ad_tree.specs.declared.ad.Ad.{Ad}
 use Rattle.ad_tree.specs.Ad.{ad_frames}
 use Rattle.ad_tree.specs.Frames.{Frame, IsAd, attributes_at}
-use Rattle.ad_tree.specs.Inline.{Inline, inner, Defs, no_defs, def, count, count_defs, height, highest_def, number, attributes_from, frames, def_names, spelled, spelled_tree, settled, settled_defs}
+use Rattle.ad_tree.specs.Inline.{Inline, inner, Defs, no_defs, def, count, count_defs, height, highest_def, number, attributes_from, frames, def_names, spelled}
+use Rattle.ad_tree.specs.Inline.{spelled_tree, settled, settled_defs}
 use Rattle.ad_tree.specs.Names.{are_apart, has_name, same_name}
 use Rattle.ad_tree.specs.Tree.{Tree}
 use Rattle.ad_tree.proofs.InlineLemmas.{length-frames, names-attributes_from}
-use Rattle.ad_tree.proofs.NameLemmas.{both_left, both_right, not_true, same_folded_form}
+use Rattle.ad_tree.proofs.NameLemmas.{same_folded_form}
 use Rattle.ad_tree.proofs.SpellingLemmas.{Stand, Stand-behind, as_it_is, map-as_it_is, plain-number, spelled-frames}
 use Rattle.ad_grammar.specs.Made.{IsMade, DefsMade}
 use Rattle.ad_parser.specs.Answers.{AnswersAd}
 use Rattle.ad_parser.specs.Limits.{height_limit}
 use Rattle.ad_parser.proofs.KeptLemmas.{ad_answer-made, ad_answer-within}
 use Rattle.ad_printer.specs.Printed.{printed}
+use Rattle.significant_attrs.specs.Matched.{AreMatchedAlike, docked_to}
+use Rattle.significant_attrs.specs.Names.{weighed_names, asked_by, needed_in}
+use Rattle.significant_attrs.specs.Reach.{IsReached, is_first, is_needed, first_names, reached_from}
+use Rattle.significant_attrs.proofs.ContainLemmas.{contains_at, contains_cases, contains_first, contains_later, contains_none, named-one, same_name-folded}
+use Rattle.significant_attrs.proofs.DockedLemmas.{both_along}
+use Rattle.significant_attrs.proofs.ReachLemmas.{flat_map-names, list_is_least, listed-along}
 use Rattle.job_classes.specs.Keys.{Entry, IsEntry, arranged, entered, entries, entry_of, key_from, key_of}
-use Rattle.job_classes.specs.Marking.{reached_marks}
-use Rattle.job_classes.specs.Matched.{AreMatchedAlike, docked_to}
-use Rattle.job_classes.specs.Names.{weighed_names, asked_by, needed_in}
-use Rattle.job_classes.specs.Reach.{IsReached, is_first, is_needed, first_names, reached_from}
-use Rattle.job_classes.proofs.ContainLemmas.{contains_at, contains_cases, contains_filter_map, contains_first, contains_later, contains_none, filter_map_contains, has_name-listed, listed-has_name, same_name-folded}
-use Rattle.job_classes.proofs.ReachLemmas.{list_is_least}
-use Rattle.job_classes.proofs.DockedLemmas.{both_along}
 use Rattle.job_classes.proofs.SitsLemmas.{IsDefAt, Origin, def_at-stands, told-alike}
+
+-- ---- what filtered lists contain
+
+pub contains_filter_map : {A B : Type 0} (f : A → Option B) (xs : List A) (x : A) (y : B) → Contains xs x → f x ≡ Some y
+    → Contains (filter_map f xs) y
+contains_filter_map f [] x y h e = absurd (contains_none x h)
+contains_filter_map f (a ∷ xs) x y h e = by (contains_filter_map f xs x y) (f a) refl (contains_cases a xs x h)
+  where
+    by : (Contains xs x → f x ≡ Some y → Contains (filter_map f xs) y) → (o : Option _) → f a ≡ o → (a ≡ x) ⊎ Contains xs x
+        → Contains (cons_option o (filter_map f xs)) y
+    by rest None is (inl same) = absurd (cc (is, e, ap f same))
+    by rest None is (inr later) = rest later e
+    by rest (Some b) is (inl same) =
+        let equal : b ≡ y = cc (is, e, ap f same) in subst (λ c. Contains (b ∷ filter_map f xs) c) equal (contains_first b (filter_map f xs))
+    by rest (Some b) is (inr later) = contains_later b (filter_map f xs) y (rest later e)
+
+pub filter_map_contains : {A B : Type 0} (f : A → Option B) (xs : List A) (y : B) → Contains (filter_map f xs) y
+    → (x : A) × Contains xs x × (f x ≡ Some y)
+filter_map_contains f [] y h = absurd (contains_none y h)
+filter_map_contains f (a ∷ xs) y h = by (filter_map_contains f xs y) (f a) refl h
+  where
+    later : (x : _) × Contains xs x × (f x ≡ Some y) → (x : _) × Contains (a ∷ xs) x × (f x ≡ Some y)
+    later found = (found.0, contains_later a xs found.0 found.1, found.2)
+
+    by : (Contains (filter_map f xs) y → (x : _) × Contains xs x × (f x ≡ Some y)) → (o : Option _) → f a ≡ o
+        → Contains (cons_option o (filter_map f xs)) y → (x : _) × Contains (a ∷ xs) x × (f x ≡ Some y)
+    by rest None is k = later (rest k)
+    by rest (Some b) is k = elim (contains_cases b (filter_map f xs) y k) [
+      | inl same ↦ (a, contains_first a xs, is ∙ ap Option.Some same)
+      | inr more ↦ later (rest more)
+    ]
 
 -- ---- entries in order
 
@@ -60,7 +90,8 @@ entered-contains e (o ∷ es) x = by (entered-contains e es x) (is_lt (slice_cmp
     front (inl same) = subst (Contains (e ∷ (o ∷ es))) same (contains_first e (o ∷ es))
     front (inr c) = contains_later e (o ∷ es) x c
 
-    by : Contains (entered e es) x ↔ ((e ≡ x) ⊎ Contains es x) → (b : Bool) → Contains (cond b (e ∷ (o ∷ es)) (o ∷ entered e es)) x ↔ ((e ≡ x) ⊎ Contains (o ∷ es) x)
+    by : Contains (entered e es) x ↔ ((e ≡ x) ⊎ Contains es x) → (b : Bool)
+        → Contains (cond b (e ∷ (o ∷ es)) (o ∷ entered e es)) x ↔ ((e ≡ x) ⊎ Contains (o ∷ es) x)
     by rest true = (λ c. contains_cases e (o ∷ es) x c, front)
     by rest false = (λ c. there rest (contains_cases o (entered e es) x c), back rest)
 
@@ -72,15 +103,18 @@ arranged-contains done [] x = (λ c. inl c, back)
     back (inr c) = absurd (contains_none x c)
 arranged-contains done (e ∷ es) x = by (arranged-contains (entered e done) es x) (entered-contains e done x)
   where
-    there : Contains (entered e done) x ↔ ((e ≡ x) ⊎ Contains done x) → Contains (entered e done) x ⊎ Contains es x → Contains done x ⊎ Contains (e ∷ es) x
+    there : Contains (entered e done) x ↔ ((e ≡ x) ⊎ Contains done x) → Contains (entered e done) x ⊎ Contains es x
+        → Contains done x ⊎ Contains (e ∷ es) x
     there both (inl c) = elim (both.0 c) [ inl same ↦ inr (subst (Contains (e ∷ es)) same (contains_first e es)) | inr old ↦ inl old ]
     there both (inr c) = inr (contains_later e es x c)
 
-    back : Contains (entered e done) x ↔ ((e ≡ x) ⊎ Contains done x) → Contains done x ⊎ Contains (e ∷ es) x → Contains (entered e done) x ⊎ Contains es x
+    back : Contains (entered e done) x ↔ ((e ≡ x) ⊎ Contains done x) → Contains done x ⊎ Contains (e ∷ es) x
+        → Contains (entered e done) x ⊎ Contains es x
     back both (inl c) = inl (both.1 (inr c))
     back both (inr c) = elim (contains_cases e es x c) [ inl same ↦ inl (both.1 (inl same)) | inr later ↦ inr later ]
 
-    by : Contains (arranged (entered e done) es) x ↔ (Contains (entered e done) x ⊎ Contains es x) → Contains (entered e done) x ↔ ((e ≡ x) ⊎ Contains done x)
+    by : Contains (arranged (entered e done) es) x ↔ (Contains (entered e done) x ⊎ Contains es x)
+        → Contains (entered e done) x ↔ ((e ≡ x) ⊎ Contains done x)
         → Contains (arranged (entered e done) es) x ↔ (Contains done x ⊎ Contains (e ∷ es) x)
     by rest both = (λ c. there both (rest.0 c), λ c. rest.1 (back both c))
 
@@ -101,7 +135,8 @@ module _ (first : List (List ℕ)) (request : List Frame) where
   key-entry : (e : Entry) → Contains (key_from first request) e → IsEntry first request e
   key-entry e c = by (filter_map_contains kept (attributes_at request 0) e ((arranged_from_none (entries (reached_from first request) request) e).0 c))
     where
-      from : (a : List ℕ × Tree) (b : Bool) → has_name a.0 (reached_from first request) ≡ b → cond b (Some (entry_of request a)) None ≡ Some e → (b ≡ true) × (e ≡ entry_of request a)
+      from : (a : List ℕ × Tree) (b : Bool) → has_name a.0 (reached_from first request) ≡ b → cond b (Some (entry_of request a)) None ≡ Some e
+          → (b ≡ true) × (e ≡ entry_of request a)
       from a true is k = let same : entry_of request a ≡ e = cc (k) in (refl, sym same)
       from a false is k = absurd (cc (k))
 
@@ -119,45 +154,6 @@ module _ (first : List (List ℕ)) (request : List Frame) where
   pub key_has_entries : (e : Entry) → Contains (key_from first request) e ↔ IsEntry first request e
   key_has_entries e = (key-entry e, entry-key e)
 
--- ---- names that are apart
-
-apart-one : (ns : List (List ℕ)) (k l : ℕ) (d : List ℕ) → are_apart ns ≡ true → k < length ns → l < length ns → folded (get_or ns k d) ≡ folded (get_or ns l d) → k ≡ l
-apart-one [] k l d apart low other same = absurd (omega (arith, low))
-apart-one (n ∷ ns) zero zero d apart low other same = refl
-apart-one (n ∷ ns) zero (suc l) d apart low other same =
-    absurd (true≢false (sym (listed-has_name n ns (get_or ns l d) (within ns l (omega (arith, other))) (sym same)) ∙ not_true (has_name n ns) (both_left _ _ apart)))
-  where
-    within : (ms : List (List ℕ)) (j : ℕ) → j < length ms → Contains ms (get_or ms j d)
-    within ms j h = contains_get ms j h
-      where
-        contains_get : (xs : List (List ℕ)) (i : ℕ) → i < length xs → Contains xs (get_or xs i d)
-        contains_get [] i g = absurd (omega (arith, g))
-        contains_get (x ∷ xs) zero g = contains_first x xs
-        contains_get (x ∷ xs) (suc i) g = contains_later x xs (get_or xs i d) (contains_get xs i (omega (arith, g)))
-apart-one (n ∷ ns) (suc k) zero d apart low other same =
-    absurd (true≢false (sym (listed-has_name n ns (get_or ns k d) (within ns k (omega (arith, low))) same) ∙ not_true (has_name n ns) (both_left _ _ apart)))
-  where
-    within : (xs : List (List ℕ)) (i : ℕ) → i < length xs → Contains xs (get_or xs i d)
-    within [] i g = absurd (omega (arith, g))
-    within (x ∷ xs) zero g = contains_first x xs
-    within (x ∷ xs) (suc i) g = contains_later x xs (get_or xs i d) (within xs i (omega (arith, g)))
-apart-one (n ∷ ns) (suc k) (suc l) d apart low other same = ap suc (apart-one ns k l d (both_right _ _ apart) (omega (arith, low)) (omega (arith, other)) same)
-
-passed : (p : List ℕ → Bool) (ns : List (List ℕ)) (k : ℕ) (d : List ℕ) → position p ns ≡ None → k < length ns → p (get_or ns k d) ≡ false
-passed p ns k d none less =
-    let all : length ns ≤ position_or_len p ns = grind (arith, common_steps) in
-    fails_before_first p ns k d (omega (arith, all, less))
-
--- a name stands where an equal one does
-pub named-one : (x : List ℕ) (ns : List (List ℕ)) (k : ℕ) → are_apart ns ≡ true → k < length ns → same_name x (get_or ns k []) ≡ true → position (same_name x) ns ≡ Some k
-named-one x ns k apart low same = by (position (same_name x) ns) refl
-  where
-    by : (o : Option ℕ) → position (same_name x) ns ≡ o → o ≡ Some k
-    by None at = absurd (true≢false (sym same ∙ passed (same_name x) ns k [] at low))
-    by (Some l) at =
-        let found = position-Some (same_name x) ns l [] at in
-        ap Option.Some (apart-one ns l k [] apart found.0 low (sym (same_folded_form x (get_or ns l []) found.1) ∙ same_folded_form x (get_or ns k []) same))
-
 -- ---- the definition at a place
 
 record DefThere (b : ℕ) (ds : Defs) (k : ℕ) : Type 0 where
@@ -173,12 +169,25 @@ record DefThere (b : ℕ) (ds : Defs) (k : ℕ) : Type 0 where
 
 def_there : (b : ℕ) (ds : Defs) (k : ℕ) → k < length (def_names ds) → DefThere b ds k
 def_there b no_defs k h = absurd (omega (arith, h))
-def_there b (def text i ds) zero h = record { called = text; body = i; from = b; at = (refl, refl); stands = refl; named = refl; made = λ m. m.1; low = omega arith; few = omega arith }
+def_there b (def text i ds) zero h =
+    record { called = text; body = i; from = b; at = (refl, refl); stands = refl; named = refl; made = λ m. m.1; low = omega arith; few = omega arith }
 def_there b (def text i ds) (suc k) h =
     let d = def_there (b + count i) ds k (omega (arith, h)) in
     let low = d.low in
     let few = d.few in
-    record { called = d.called; body = d.body; from = d.from; at = d.at; stands = d.stands; named = d.named; made = λ m. d.made m.2; low = omega (arith, low); few = omega (arith, few) }
+    record {
+      called =
+          d.called;
+      body =
+          d.body;
+      from = d.from;
+      at = d.at;
+      stands = d.stands;
+      named = d.named;
+      made = λ m. d.made m.2;
+      low = omega (arith, low);
+      few = omega (arith, few);
+    }
 
 -- ---- two requests
 
@@ -210,7 +219,8 @@ module _ (first : List (List ℕ)) (ds es : Defs) (one : IsParsed ds) (other : I
     Reached x = IsReached first (frames 0 0 (inner ds)) (folded x) × IsReached first (frames 0 0 (inner es)) (folded x)
 
     -- what the one root has under such a name, the other has
-    matched : (x : List ℕ) → Reached x → (k : ℕ) → position (same_name x) (def_names ds) ≡ Some k → (l : ℕ) × (position (same_name x) (def_names es) ≡ Some l) × Origin Reached ds es k l
+    matched : (x : List ℕ) → Reached x → (k : ℕ) → position (same_name x) (def_names ds) ≡ Some k
+        → (l : ℕ) × (position (same_name x) (def_names es) ≡ Some l) × Origin Reached ds es k l
     matched x r k at =
         let fs = frames 0 0 (inner ds) in
         let gs = frames 0 0 (inner es) in
@@ -220,11 +230,13 @@ module _ (first : List (List ℕ)) (ds es : Defs) (one : IsParsed ds) (other : I
         let same : folded x ≡ folded d.called = same_folded_form x (get_or (def_names ds) k []) found.1 ∙ ap folded d.named in
         let stands : Contains (attributes_at fs 0) a = contains_at (attributes_from 1 ds) k a d.stands in
         let reached : IsReached first fs (folded a.0) = subst (IsReached first fs) same r.0 in
-        let here : Contains (key_from first fs) (entry_of fs a) = entry-key first fs (entry_of fs a) (record { attribute = a; stands = stands; reached = reached; is = refl }) in
+        let here : Contains (key_from first fs) (entry_of fs a) =
+        entry-key first fs (entry_of fs a) (record { attribute = a; stands = stands; reached = reached; is = refl }) in
         let there : IsEntry first gs (entry_of fs a) = (key_has_entries first gs (entry_of fs a)).0 (subst (λ es2. Contains es2 (entry_of fs a)) keys here) in
         joined d a refl same stands reached there
       where
-        joined : (d : DefThere 1 ds k) (a : List ℕ × Tree) → a ≡ (d.called, number d.from d.body) → folded x ≡ folded d.called → Contains (attributes_at (frames 0 0 (inner ds)) 0) a
+        joined : (d : DefThere 1 ds k) (a : List ℕ × Tree) → a ≡ (d.called, number d.from d.body) → folded x ≡ folded d.called
+            → Contains (attributes_at (frames 0 0 (inner ds)) 0) a
             → IsReached first (frames 0 0 (inner ds)) (folded a.0) → IsEntry first (frames 0 0 (inner es)) (entry_of (frames 0 0 (inner ds)) a)
             → (l : ℕ) × (position (same_name x) (def_names es) ≡ Some l) × Origin Reached ds es k l
         joined d a a_is same stands reached e =
@@ -232,10 +244,14 @@ module _ (first : List (List ℕ)) (ds es : Defs) (one : IsParsed ds) (other : I
             let gs = frames 0 0 (inner es) in
             let l = e.stands.0 in
             let within = e.stands.1 in
-            let low : l < length (def_names es) = omega (arith, within, ap (λ ns. length ns) (names-attributes_from 1 es), length-map (attributes_from 1 es) (λ b. b.0)) in
+            let low : l < length (def_names es) =
+            omega (arith, within, ap (λ ns. length ns) (names-attributes_from 1 es), length-map (attributes_from 1 es) (λ b. b.0)) in
             let f = def_there 1 es l low in
-            let b_is : e.attribute ≡ (f.called, number f.from f.body) = at_index (attributes_from 1 es) l e.attribute (f.called, number f.from f.body) f.stands e.stands.2 in
-            let names : folded f.called ≡ folded x = ap (λ (b : List ℕ × Tree). folded b.0) (sym b_is) ∙ ap (λ (p : Entry). p.0) (sym e.is) ∙ ap (λ (b : List ℕ × Tree). folded b.0) a_is ∙ sym same in
+            let b_is : e.attribute ≡ (f.called, number f.from f.body) =
+            at_index (attributes_from 1 es) l e.attribute (f.called, number f.from f.body) f.stands e.stands.2 in
+            let names : folded f.called ≡ folded x =
+            ap (λ (b : List ℕ × Tree). folded b.0) (sym b_is) ∙ ap (λ (p : Entry). p.0) (sym e.is)
+            ∙ ap (λ (b : List ℕ × Tree). folded b.0) a_is ∙ sym same in
             let mine : spelled_tree fs a.1 ≡ d.body = ap (λ (b : List ℕ × Tree). spelled_tree fs b.1) a_is ∙ def-spelled ds one k d in
             let yours : spelled_tree gs e.attribute.1 ≡ f.body = ap (λ (b : List ℕ × Tree). spelled_tree gs b.1) b_is ∙ def-spelled es other l f in
             let texts : printed d.body ≡ printed f.body = ap printed (sym mine) ∙ ap (λ (p : Entry). p.1) e.is ∙ ap printed yours in
@@ -243,8 +259,11 @@ module _ (first : List (List ℕ)) (ds es : Defs) (one : IsParsed ds) (other : I
             let f_low = f.low in
             let one_low = one.low in
             let other_low = other.low in
-            let bodies : d.body ≡ f.body = injective d.body f.body (d.made one.made) (f.made other.made) (omega (arith, d_low, one_low)) (omega (arith, f_low, other_low)) texts in
-            let there_at : position (same_name x) (def_names es) ≡ Some l = named-one x (def_names es) l (names-apart es other) low (same_name-back x (get_or (def_names es) l []) (sym names ∙ ap folded (sym f.named))) in (
+            let bodies : d.body ≡ f.body =
+            injective d.body f.body (d.made one.made) (f.made other.made) (omega (arith, d_low, one_low)) (omega (arith, f_low, other_low)) texts in
+            let there_at : position (same_name x) (def_names es) ≡ Some l =
+            named-one x (def_names es) l (names-apart es other) low
+            (same_name-back x (get_or (def_names es) l []) (sym names ∙ ap folded (sym f.named))) in (
               l,
               there_at,
               record {
@@ -281,13 +300,15 @@ module _ (first : List (List ℕ)) (ds es : Defs) (one : IsParsed ds) (other : I
     shared : (x : List ℕ) → BothReach x → Both (Origin BothReach ds es) (position (same_name x) (def_names ds)) (position (same_name x) (def_names es))
     shared x r = by (position (same_name x) (def_names ds)) refl (position (same_name x) (def_names es)) refl
       where
-        by : (o : Option ℕ) → position (same_name x) (def_names ds) ≡ o → (p : Option ℕ) → position (same_name x) (def_names es) ≡ p → Both (Origin BothReach ds es) o p
+        by : (o : Option ℕ) → position (same_name x) (def_names ds) ≡ o → (p : Option ℕ) → position (same_name x) (def_names es) ≡ p
+            → Both (Origin BothReach ds es) o p
         by None at None also = both_none
         by (Some k) at p also = let found = matched first ds es one other injective keys x r k at in both_along refl (sym also ∙ found.1) (both_some found.2)
         by None at (Some l) also = let found = matched first es ds other one injective (sym keys) x (r.1, r.0) l also in absurd (cc (at, found.1))
 
     -- no ad that asks for no other names tells them apart
-    pub told_apart_by_none : (res : List Frame) → ((y : List ℕ) → Contains weighed_names y → Contains first y) → ((y : List ℕ) → Contains (asked_by res) y → Contains first y) → (moment : ℕ)
+    pub told_apart_by_none : (res : List Frame) → ((y : List ℕ) → Contains weighed_names y → Contains first y)
+        → ((y : List ℕ) → Contains (asked_by res) y → Contains first y) → (moment : ℕ)
         → AreMatchedAlike (docked_to moment (frames 0 0 (inner ds)) res) (docked_to moment (frames 0 0 (inner es)) res)
     told_apart_by_none res weighed asked moment =
         told-alike (record {
@@ -329,17 +350,9 @@ parsed-ad text ad answer =
       };
     }
 
--- the names of an ad are among those from which it goes on
-pub flat_map-names : (ads : List (List Frame)) (ad : List Frame) (y : List ℕ) → Contains ads ad → Contains (asked_by ad) y → Contains (flat_map asked_by ads) y
-flat_map-names [] ad y c h = absurd (contains_none ad c)
-flat_map-names (a ∷ ads) ad y c h = by (flat_map-names ads ad y) (contains_cases a ads ad c)
-  where
-    by : (Contains ads ad → Contains (asked_by ad) y → Contains (flat_map asked_by ads) y) → (a ≡ ad) ⊎ Contains ads ad → Contains (flat_map asked_by (a ∷ ads)) y
-    by rest (inl same) = Contains-append_left (asked_by a) (flat_map asked_by ads) y (subst (λ x. Contains (asked_by x) y) (sym same) h)
-    by rest (inr later) = Contains-append_right (asked_by a) (flat_map asked_by ads) y (rest later h)
-
 -- the law on two requests that parses gave
-pub equal_keys-alike : ((x y : Inline) → IsMade x → IsMade y → height x ≤ height_limit → height y ≤ height_limit → printed x ≡ printed y → x ≡ y)
+pub equal_keys-alike : ((x y : Inline) → IsMade x → IsMade y → height x ≤ height_limit → height y ≤ height_limit → printed x ≡ printed y
+    → x ≡ y)
     → (text other_text : List ℕ) (one other : Ad) (ads : List (List Frame)) (ad : List Frame) (moment : ℕ)
     → AnswersAd text (Ok one) → AnswersAd other_text (Ok other) → key_of ads (ad_frames one) ≡ key_of ads (ad_frames other) → Contains ads ad
     → AreMatchedAlike (docked_to moment (ad_frames one) ad) (docked_to moment (ad_frames other) ad)
@@ -355,38 +368,18 @@ equal_keys-alike injective text other_text one other ads ad moment answer other_
 
 -- ---- the same names in another order
 
-reached-along : (first other : List (List ℕ)) → ((x : List ℕ) → has_name x first ≡ has_name x other) → (request : List Frame) {z : List ℕ} → IsReached first request z → IsReached other request z
-reached-along first other same request (is_first x c) =
-    let found = has_name-listed x other (sym (same x) ∙ listed-has_name x first x c refl) in
-    subst (IsReached other request) found.2 (is_first found.0 found.1)
-reached-along first other same request (is_needed a y stands reached needs) = is_needed a y stands (reached-along first other same request reached) needs
-
-listed-along : (first other : List (List ℕ)) → ((x : List ℕ) → has_name x first ≡ has_name x other) → (request : List Frame) (x : List ℕ) → has_name x (reached_from first request) ≡ has_name x (reached_from other request)
-listed-along first other same request x = by (has_name x (reached_from first request)) refl (has_name x (reached_from other request)) refl
-  where
-    by : (a : Bool) → has_name x (reached_from first request) ≡ a → (b : Bool) → has_name x (reached_from other request) ≡ b → a ≡ b
-    by true h true g = refl
-    by false h false g = refl
-    by true h false g = absurd (true≢false (sym ((list_is_least other request x).1 (reached-along first other same request ((list_is_least first request x).0 h))) ∙ g))
-    by false h true g = absurd (true≢false (sym ((list_is_least first request x).1 (reached-along other first (λ y. sym (same y)) request ((list_is_least other request x).0 g))) ∙ h))
-
-entries-along : (names others : List (List ℕ)) (request : List Frame) → ((x : List ℕ) → has_name x names ≡ has_name x others) → (attributes : List (List ℕ × Tree))
-    → filter_map (λ a. cond (has_name a.0 names) (Some (entry_of request a)) None) attributes ≡ filter_map (λ a. cond (has_name a.0 others) (Some (entry_of request a)) None) attributes
+entries-along : (names others : List (List ℕ)) (request : List Frame) → ((x : List ℕ) → has_name x names ≡ has_name x others)
+    → (attributes : List (List ℕ × Tree))
+    → filter_map (λ a. cond (has_name a.0 names) (Some (entry_of request a)) None) attributes
+    ≡ filter_map (λ a. cond (has_name a.0 others) (Some (entry_of request a)) None) attributes
 entries-along names others request same [] = refl
 entries-along names others request same (a ∷ rest) =
-    ap (λ b. cons_option (cond b (Some (entry_of request a)) None) (filter_map (λ c. cond (has_name c.0 names) (Some (entry_of request c)) None) rest)) (same a.0)
+    ap (λ b. cons_option (cond b (Some (entry_of request a)) None) (filter_map (λ c. cond (has_name c.0 names) (Some (entry_of request c)) None) rest))
+    (same a.0)
     ∙ ap (cons_option (cond (has_name a.0 others) (Some (entry_of request a)) None)) (entries-along names others request same rest)
 
-pub keys-alike : (first other : List (List ℕ)) → ((x : List ℕ) → has_name x first ≡ has_name x other) → (request : List Frame) → key_from first request ≡ key_from other request
+pub keys-alike : (first other : List (List ℕ)) → ((x : List ℕ) → has_name x first ≡ has_name x other) → (request : List Frame)
+    → key_from first request ≡ key_from other request
 keys-alike first other same request =
-    ap (arranged []) (entries-along (reached_from first request) (reached_from other request) request (listed-along first other same request) (attributes_at request 0))
-
-marks-along-of : (names others : List (List ℕ)) → ((x : List ℕ) → has_name x names ≡ has_name x others) → (attributes : List (List ℕ × Tree))
-    → map (λ (a : List ℕ × Tree). has_name a.0 names) attributes ≡ map (λ (a : List ℕ × Tree). has_name a.0 others) attributes
-marks-along-of names others same [] = refl
-marks-along-of names others same (a ∷ rest) =
-    ap (λ b. b ∷ map (λ (c : List ℕ × Tree). has_name c.0 names) rest) (same a.0)
-    ∙ ap (λ bs. has_name a.0 others ∷ bs) (marks-along-of names others same rest)
-
-pub marks-along : (first other : List (List ℕ)) → ((x : List ℕ) → has_name x first ≡ has_name x other) → (request : List Frame) → reached_marks first request ≡ reached_marks other request
-marks-along first other same request = marks-along-of (reached_from first request) (reached_from other request) (listed-along first other same request) (attributes_at request 0)
+    ap (arranged []) (entries-along (reached_from first request) (reached_from other request) request (listed-along first other same request)
+    (attributes_at request 0))

@@ -1,19 +1,25 @@
 -- What of a request counts in the matching with some ads: the attributes that are reached, by their folded names in order, with their printed text.
-use Rattle.std.specs.Prelude.{ℕ, List, [], ◌∷◌, None, Some, Contains, ◌≡◌, if◌then◌else◌}
+use Rattle.std.specs.Prelude.{ℕ, ◌+◌, ◌*◌, ◌%◌, ◌^◌, List, [], ◌∷◌, None, Some, Contains, ◌≡◌, if◌then◌else◌}
 use Rattle.std.specs.List.{filter_map}
 use Rattle.std.specs.Ordering.{is_lt, nat_cmp}
 use Rattle.std.specs.Cmp.Lexicographic.{slice_cmp}
 use Rattle.pool_text.specs.Folding.{folded}
+use Rattle.pool_text.specs.Digests.{name_digest}
 use Rattle.ad_tree.specs.Tree.{Tree}
 use Rattle.ad_tree.specs.Names.{has_name}
 use Rattle.ad_tree.specs.Frames.{Frame, attributes_at}
 use Rattle.ad_tree.specs.Inline.{spelled_tree}
 use Rattle.ad_printer.specs.Printed.{printed}
-use Rattle.job_classes.specs.Reach.{IsReached, first_names, reached_from}
+use Rattle.significant_attrs.specs.Reach.{IsReached, first_names, reached_from}
 
 -- an entry: a folded name and a text
 abbrev pub Entry : Type 0
 Entry = List ℕ × List ℕ
+
+-- a number of 64 bits that entries give behind those that gave h
+abbrev pub digest_behind : ℕ → List Entry → ℕ
+digest_behind h [] = h
+digest_behind h (e ∷ es) = digest_behind (((h * 31) % (2 ^ 64) + name_digest e.1) % (2 ^ 64)) es
 
 -- the entry of an attribute of the root
 abbrev pub entry_of : List Frame → List ℕ × Tree → Entry

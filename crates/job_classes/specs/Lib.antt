@@ -1,8 +1,3 @@
 pub mod Classes
 pub mod Keys
-pub mod Marking
-pub mod Matched
-pub mod Names
-pub mod Reach
 pub mod Shown
-pub mod Twins

@@ -65,8 +65,8 @@ impl Classes {
     }
 }
 
-// The number of the first class with the key, or of a new one. Keys mostly differ in their lengths or in their first entries, and
-// there are few classes where there are many jobs, so the classes are gone through.
+// The number of the first class with the key, or of a new one. Keys that differ do so in their digests, and there are few classes
+// where there are many jobs, so the classes are gone through.
 fn number_of(keys: &[Option<Key>], key: &Key) -> usize
     ensures { result ≡ number_of key.now keys.now }
 {

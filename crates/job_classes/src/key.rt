@@ -1,14 +1,17 @@
 // Keys: what of a request counts.
-ghost use Rattle.std.specs.Prelude.{◌≡◌, ◌≤◌, [], ◌<◌, ◌&&◌, bytes_eq, length, option_map, slice_get, Some, IfOk, OnOk};
+ghost use Rattle.std.specs.Prelude.{◌≡◌, ◌≤◌, [], ◌<◌, ◌&&◌, List, bytes_eq, length, option_map, slice_get, Some, IfOk, OnOk};
 ghost use Rattle.ad_tree.specs.Ad.{ad_frames};
 ghost use Rattle.ad_tree.specs.Frames.{attributes_at};
+ghost use Rattle.ad_store.specs.Stock.{Advert};
+ghost use Rattle.significant_attrs.specs.Shown.{HasReadAds, ads_in, names_in};
 ghost use Rattle.job_classes.specs.Classes.{same_key};
-ghost use Rattle.job_classes.specs.Keys.{arranged, entered, entry_of};
+ghost use Rattle.job_classes.specs.Keys.{arranged, digest_behind, entered, entry_of, key_from, key_of};
 ghost use Rattle.job_classes.specs.Shown.{marked_entries, place_among};
 
 use ad_printer::print_expr;
-use ad_tree::Ad;
-use pool_text::{OutOfMemory, Text, fold};
+use ad_tree::{Ad, Request};
+use pool_text::{OutOfMemory, Text, fold, name_digest};
+use significant_attrs::Reach;
 use std::alloc::Global;
 use std::marker::Model;
 
@@ -17,6 +20,8 @@ use std::marker::Model;
 #[derive(Drop)]
 pub struct Key {
     entries: Vec<(Text, Text)>,
+    digest: u64,
+    ghost told: { digest ≡ digest_behind 0 entries.items },
 }
 
 impl Model for Key {
@@ -29,8 +34,17 @@ impl Model for Key {
 }
 
 impl Key {
-    /// The key of the attributes of the root that are marked.
-    pub(crate) fn of(alloc: Global, ad: &Ad, marks: &[bool]) -> Result<Key, OutOfMemory>
+    /// The key of a request: its attributes that the matching can come to, by these names.
+    pub fn of(alloc: Global, reach: &Reach, request: &Request) -> Result<Key, OutOfMemory>
+        ensures names { IfOk result (λ key. key ≡ key_from (names_in reach.now) (ad_frames request.now.ad)) }
+        ensures ads { IfOk result (λ key. (ads : List Advert) → HasReadAds reach.now ads → key ≡ key_of (ads_in ads) (ad_frames request.now.ad)) }
+    {
+        let marks = reach.marks(request)?;
+        Key::of_marked(alloc, &request.ad, &marks)
+    }
+
+    // The key of the attributes of the root that are marked.
+    fn of_marked(alloc: Global, ad: &Ad, marks: &[bool]) -> Result<Key, OutOfMemory>
         requires { length marks.now ≡ length (attributes_at (ad_frames ad.now) 0) }
         ensures { IfOk result (λ key. key ≡ arranged [] (marked_entries (ad_frames ad.now) marks.now (attributes_at (ad_frames ad.now) 0))) }
     {
@@ -40,15 +54,29 @@ impl Key {
                 enter(&mut entries, entry(alloc, ad, k)?)?;
             }
         }
-        Ok(Key { entries })
+        let digest = digest_of(&entries);
+        Ok(Key { entries, digest })
     }
 
     /// Whether two keys are the same.
     pub(crate) fn is_same(&self, other: &Key) -> bool
         ensures { result ≡ same_key self.now other.now }
     {
-        are_same(&self.entries, &other.entries)
+        self.digest == other.digest && are_same(&self.entries, &other.entries)
     }
+}
+
+// A number of entries: keys of one number may differ, keys of two do.
+fn digest_of(entries: &[(Text, Text)]) -> u64
+    ensures { result ≡ digest_behind 0 entries.now }
+{
+    let mut digest: u64 = 0;
+    for i in 0..entries.len() {
+        digest = digest
+            .wrapping_mul(31)
+            .wrapping_add(name_digest(entries[i].1.bytes()));
+    }
+    digest
 }
 
 // The entry of attribute `k` of the root.

@@ -1,5 +1,6 @@
 -- Attributes put in and taken out one after another.
-use Rattle.std.proofs.Common.{refl, arith, ◌≡◌, ◌≢◌, ◌<◌, ◌≤◌, ◌∙◌, ap, sym, ℕ, ◌+◌, Bool, true, false, ◌&&◌, ◌||◌, cond, List, Option, None, Some, option_map, slice_get, nat_lt}
+use Rattle.std.proofs.Common.{refl, arith, ◌≡◌, ◌≢◌, ◌<◌, ◌≤◌, ◌∙◌, ap, sym, ℕ, ◌+◌, Bool, true, false, ◌&&◌, ◌||◌, cond, List, Option, None, Some, option_map}
+use Rattle.std.proofs.Common.{slice_get, nat_lt}
 use Rattle.std.specs.Option.{option_map_or}
 use Rattle.std.specs.BTreeMap.{BTreeMap, get, is_at}
 use Rattle.ad_tree.specs.Tree.{Tree}
@@ -11,7 +12,8 @@ use Rattle.literal_index.specs.Changes.{HasPut, HasPutOne, HasTaken, IsSame, is_
 use Rattle.literal_index.proofs.Orders.{at_place}
 
 -- an attribute is its name with its expression
-pub attribute : (o : Option (List ℕ × Tree)) (name : List ℕ) (t : Tree) → option_map (λ a. a.0) o ≡ Some name → option_map (λ a. a.1) o ≡ Some t → o ≡ Some (name, t)
+pub attribute : (o : Option (List ℕ × Tree)) (name : List ℕ) (t : Tree) → option_map (λ a. a.0) o ≡ Some name → option_map (λ a. a.1) o ≡ Some t
+    → o ≡ Some (name, t)
 attribute None name t n e = absurd (cc)
 attribute (Some a) name t n e = let left : a.0 ≡ name = cc in let right : a.1 ≡ t = cc in ap (λ x. Some (x, a.1)) left ∙ ap (λ y. Some (name, y)) right
 
@@ -27,7 +29,9 @@ module _ (slot k : ℕ) (attrs : List (List ℕ × Tree)) (a : List ℕ × Tree)
   below-more q = by (nat_lt q.attr k) (nat_lt k q.attr) refl refl
     where
       here : q.attr ≡ k → is_place slot attrs q ≡ is_at (place_order (place_of slot k a)) q
-      here e = ap (λ i. option_map_or (λ b. is_at (place_order (place_of slot i b)) q) (slice_get attrs i) false) e ∙ ap (λ o. option_map_or (λ b. is_at (place_order (place_of slot k b)) q) o false) is
+      here e =
+          ap (λ i. option_map_or (λ b. is_at (place_order (place_of slot i b)) q) (slice_get attrs i) false) e
+          ∙ ap (λ o. option_map_or (λ b. is_at (place_order (place_of slot k b)) q) o false) is
 
       apart : q.attr ≢ k → is_at (place_order (place_of slot k a)) q ≡ false
       apart ne = no (is_at (place_order (place_of slot k a)) q) refl
@@ -40,7 +44,8 @@ module _ (slot k : ℕ) (attrs : List (List ℕ × Tree)) (a : List ℕ × Tree)
       or_false true = refl
       or_false false = refl
 
-      by : (below above : Bool) → nat_lt q.attr k ≡ below → nat_lt k q.attr ≡ above → is_place_below (k + 1) slot attrs q ≡ (is_at (place_order (place_of slot k a)) q || is_place_below k slot attrs q)
+      by : (below above : Bool) → nat_lt q.attr k ≡ below → nat_lt k q.attr ≡ above
+          → is_place_below (k + 1) slot attrs q ≡ (is_at (place_order (place_of slot k a)) q || is_place_below k slot attrs q)
       by true above l g =
           ap (λ b. b && is_place slot attrs q) (less q.attr (k + 1) (grind arith))
           ∙ sym (ap (λ b. b || is_place_below k slot attrs q) (apart (grind arith)) ∙ ap (λ b. b && is_place slot attrs q) l)
@@ -59,19 +64,25 @@ module _ (slot k : ℕ) (attrs : List (List ℕ × Tree)) (a : List ℕ × Tree)
 
   pub taken-more : (m n p : BTreeMap Place Entry) → HasTaken k slot attrs m n
       → ((q : Place) → get place_order p q ≡ cond (is_at (place_order (place_of slot k a)) q) None (get place_order n q)) → HasTaken (k + 1) slot attrs m p
-  taken-more m n p before taken q = taken q ∙ by (is_at (place_order (place_of slot k a)) q) refl ∙ sym (ap (λ b. cond b None (get place_order m q)) (below-more q))
+  taken-more m n p before taken q =
+      taken q ∙ by (is_at (place_order (place_of slot k a)) q) refl ∙ sym (ap (λ b. cond b None (get place_order m q)) (below-more q))
     where
       by : (b : Bool) → is_at (place_order (place_of slot k a)) q ≡ b
-          → cond (is_at (place_order (place_of slot k a)) q) None (get place_order n q) ≡ cond (is_at (place_order (place_of slot k a)) q || is_place_below k slot attrs q) None (get place_order m q)
+          → cond (is_at (place_order (place_of slot k a)) q) None (get place_order n q)
+          ≡ cond (is_at (place_order (place_of slot k a)) q || is_place_below k slot attrs q) None (get place_order m q)
       by true e = ap (λ b. cond b None (get place_order n q)) e ∙ sym (ap (λ b. cond (b || is_place_below k slot attrs q) None (get place_order m q)) e)
-      by false e = ap (λ b. cond b None (get place_order n q)) e ∙ before q ∙ sym (ap (λ b. cond (b || is_place_below k slot attrs q) None (get place_order m q)) e)
+      by false e =
+          ap (λ b. cond b None (get place_order n q)) e ∙ before q ∙ sym (ap (λ b. cond (b || is_place_below k slot attrs q) None (get place_order m q)) e)
 
   pub put-more : (m n p : BTreeMap Place Entry) → HasPut k slot attrs m n → HasPutOne slot k a n p → HasPut (k + 1) slot attrs m p
-  put-more m n p before put q = put q ∙ by (is_at (place_order (place_of slot k a)) q) refl ∙ sym (ap (λ b. cond b (option_map entry_of (slice_get attrs q.attr)) (get place_order m q)) (below-more q))
+  put-more m n p before put q =
+      put q ∙ by (is_at (place_order (place_of slot k a)) q) refl
+      ∙ sym (ap (λ b. cond b (option_map entry_of (slice_get attrs q.attr)) (get place_order m q)) (below-more q))
     where
       by : (b : Bool) → is_at (place_order (place_of slot k a)) q ≡ b
           → cond (is_at (place_order (place_of slot k a)) q) (Some (entry_of a)) (get place_order n q)
-          ≡ cond (is_at (place_order (place_of slot k a)) q || is_place_below k slot attrs q) (option_map entry_of (slice_get attrs q.attr)) (get place_order m q)
+          ≡ cond (is_at (place_order (place_of slot k a)) q || is_place_below k slot attrs q) (option_map entry_of (slice_get attrs q.attr))
+          (get place_order m q)
       by true e =
           ap (λ b. cond b (Some (entry_of a)) (get place_order n q)) e
           ∙ sym (stands q e)
@@ -86,8 +97,10 @@ pub undone : (n slot : ℕ) (attrs : List (List ℕ × Tree)) (m p r : BTreeMap 
     → ((q : Place) → is_place slot attrs q ≡ true → get place_order m q ≡ None) → IsSame m r
 undone n slot attrs m p r put taken empty q = taken q ∙ by (nat_lt q.attr n) (is_place slot attrs q) refl refl
   where
-    by : (low here : Bool) → nat_lt q.attr n ≡ low → is_place slot attrs q ≡ here → cond (is_place_below n slot attrs q) None (get place_order p q) ≡ get place_order m q
-    by true true l h = ap (λ b. cond (b && is_place slot attrs q) None (get place_order p q)) l ∙ ap (λ b. cond b None (get place_order p q)) h ∙ sym (empty q h)
+    by : (low here : Bool) → nat_lt q.attr n ≡ low → is_place slot attrs q ≡ here
+        → cond (is_place_below n slot attrs q) None (get place_order p q) ≡ get place_order m q
+    by true true l h =
+        ap (λ b. cond (b && is_place slot attrs q) None (get place_order p q)) l ∙ ap (λ b. cond b None (get place_order p q)) h ∙ sym (empty q h)
     by true false l h =
         ap (λ b. cond (b && is_place slot attrs q) None (get place_order p q)) l
         ∙ ap (λ b. cond b None (get place_order p q)) h

@@ -1,5 +1,6 @@
 -- The slots that are chosen by a test, against those of the ads that pass it.
-use Rattle.std.proofs.Common.{refl, arith, ◌≡◌, ◌<◌, ◌∙◌, ap, sym, subst, true≢false, ℕ, ◌^◌, Bool, true, false, not, ◌&&◌, ◌||◌, ◌==◌, cond, List, [], ◌∷◌, ◌++◌, map, filter, Option, None, Some, option_map, slice_get, All, IsPermutation, lt_trans}
+use Rattle.std.proofs.Common.{refl, arith, ◌≡◌, ◌<◌, ◌∙◌, ap, sym, subst, true≢false, ℕ, ◌^◌, Bool, true, false, not, ◌&&◌, ◌||◌, ◌==◌, cond, List, [], ◌∷◌}
+use Rattle.std.proofs.Common.{◌++◌, map, filter, Option, None, Some, option_map, slice_get, All, IsPermutation, lt_trans}
 use Rattle.std.specs.Bool.{beq}
 use Rattle.std.specs.Map.{lookup, keys_of}
 use Rattle.std.specs.Option.{option_and_then, option_map_or}
@@ -67,7 +68,8 @@ and_right true b h = h
 and_right false b h = absurd (true≢false (sym h))
 
 -- entries are picked between two places, and what is picked of an ad stands there
-module _ (picks : Entry → Bool) (from to : Place) (m : BTreeMap Place Entry) (slots : BTreeSet ℕ) (rows : List Row) (index : AreIndexed m slots rows) (ordered : IsOrdered place_order m)
+module _ (picks : Entry → Bool) (from to : Place) (m : BTreeMap Place Entry) (slots : BTreeSet ℕ) (rows : List Row) (index : AreIndexed m slots rows)
+    (ordered : IsOrdered place_order m)
     (covered : (slot k : ℕ) (a : List ℕ × Tree) → slot < 2 ^ 64 → k < 2 ^ 32 → picks (entry_of a) ≡ true
     → range_contains place_order (Bound.Included from) (Bound.Included to) (place_of slot k a) ≡ true) where
   abbrev in_range : Place → Bool
@@ -103,11 +105,13 @@ module _ (picks : Entry → Bool) (from to : Place) (m : BTreeMap Place Entry) (
 
   kept_in_map : (q : Place) → lookup (at q) (filter (λ e. picks e.1) between) ≡ option_filter picks (cond (in_range q) (get place_order m q) None)
   kept_in_map q =
-      lookup-filter-values place_equal picks q between (IsDistinct-keys_filter (eq_by_cmp place_order) (λ e. in_range e.0) m.entries (IsDistinct-from_sorted place_order (keys_of m.entries) ordered))
+      lookup-filter-values place_equal picks q between (IsDistinct-keys_filter (eq_by_cmp place_order) (λ e. in_range e.0) m.entries
+      (IsDistinct-from_sorted place_order (keys_of m.entries) ordered))
       ∙ ap (option_filter picks) (lookup-filter-keys (at q) in_range (in_range q) (λ k e. sym (ap in_range (at_place q k e))) m.entries)
 
   kept_in_list : (q : Place) → lookup (at q) (filter (λ e. picks e.1) all_entries) ≡ option_filter picks (entry_at rows q)
-  kept_in_list q = lookup-filter-values place_equal picks q all_entries (distinct-rows rows index.apart) ∙ ap (option_filter picks) (lookup-rows rows index.apart q)
+  kept_in_list q =
+      lookup-filter-values place_equal picks q all_entries (distinct-rows rows index.apart) ∙ ap (option_filter picks) (lookup-rows rows index.apart q)
 
   same_found : (q : Place) → option_filter picks (cond (in_range q) (get place_order m q) None) ≡ option_filter picks (entry_at rows q)
   same_found q = ap (λ o. option_filter picks (cond (in_range q) o None)) (index.entries q) ∙ by (entry_at rows q) refl
@@ -120,7 +124,8 @@ module _ (picks : Entry → Bool) (from to : Place) (m : BTreeMap Place Entry) (
       by None e = none (in_range q)
       by (Some v) e = by_bool (picks v) refl (in_range q) refl
         where
-          by_bool : (c : Bool) → picks v ≡ c → (b : Bool) → in_range q ≡ b → option_filter picks (cond (in_range q) (Some v) None) ≡ option_filter picks (Some v)
+          by_bool : (c : Bool) → picks v ≡ c → (b : Bool) → in_range q ≡ b
+              → option_filter picks (cond (in_range q) (Some v) None) ≡ option_filter picks (Some v)
           by_bool c p true i = ap (λ b. option_filter picks (cond b (Some v) None)) i
           by_bool true p false i = absurd (true≢false (sym (entry_in_range q v e p) ∙ i))
           by_bool false p false i = ap (λ b. option_filter picks (cond b (Some v) None)) i ∙ sym (ap (λ c. cond c (Some v) None) p)
@@ -129,7 +134,8 @@ module _ (picks : Entry → Bool) (from to : Place) (m : BTreeMap Place Entry) (
   pub picked_between : IsPermutation (filter (λ e. picks e.1) between) (filter (λ e. picks e.1) all_entries)
   picked_between =
       same-entries (eq_by_cmp place_order) place_equal at_place (filter (λ e. picks e.1) between) (filter (λ e. picks e.1) all_entries)
-      (IsDistinct-keys_filter (eq_by_cmp place_order) (λ e. picks e.1) between (IsDistinct-keys_filter (eq_by_cmp place_order) (λ e. in_range e.0) m.entries (IsDistinct-from_sorted place_order (keys_of m.entries) ordered)))
+      (IsDistinct-keys_filter (eq_by_cmp place_order) (λ e. picks e.1) between
+      (IsDistinct-keys_filter (eq_by_cmp place_order) (λ e. in_range e.0) m.entries (IsDistinct-from_sorted place_order (keys_of m.entries) ordered)))
       (IsDistinct-keys_filter (eq_by_cmp place_order) (λ e. picks e.1) all_entries (distinct-rows rows index.apart))
       (λ q. kept_in_map q ∙ same_found q ∙ sym (kept_in_list q))
 
@@ -138,21 +144,28 @@ module _ (picks : Entry → Bool) (from to : Place) (m : BTreeMap Place Entry) (
 
 -- ---- spans
 
-module _ (test : Test) (choice : Choice) (span : Span) (covered : (found : Option Lit) → is_of test choice found ≡ true → Covers span (kind_of found) (value_of found)) where
+module _ (test : Test) (choice : Choice) (span : Span)
+    (covered : (found : Option Lit) → is_of test choice found ≡ true → Covers span (kind_of found) (value_of found)) where
   -- a chosen attribute of an ad stands in the span
   pub own_in_range : (slot k : ℕ) (a : List ℕ × Tree) → slot < 2 ^ 64 → k < 2 ^ 32 → is_chosen test choice (entry_of a) ≡ true
-      → range_contains place_order (Bound.Included (first_place (digest (folded (asked test))) span)) (Bound.Included (last_place (digest (folded (asked test))) span)) (place_of slot k a) ≡ true
+      → range_contains place_order (Bound.Included (first_place (digest (folded (asked test))) span))
+      (Bound.Included (last_place (digest (folded (asked test))) span)) (place_of slot k a) ≡ true
   own_in_range slot k a low few chosen =
-      let name : folded (asked test) ≡ folded a.0 = bytes_same (folded (asked test)) (folded a.0) (and_right (is_of test choice (literal_of a.1)) (same_name (asked test) a.0) chosen) in
-      let P : List ℕ → Type 0 = λ bytes. range_contains place_order (Bound.Included (first_place (digest bytes) span)) (Bound.Included (last_place (digest bytes) span)) (place_of slot k a) ≡ true in
+      let name : folded (asked test) ≡ folded a.0 =
+      bytes_same (folded (asked test)) (folded a.0) (and_right (is_of test choice (literal_of a.1)) (same_name (asked test) a.0) chosen) in
+      let P : List ℕ → Type 0 =
+      λ bytes. range_contains place_order (Bound.Included (first_place (digest bytes) span)) (Bound.Included (last_place (digest bytes) span))
+      (place_of slot k a) ≡ true in
       subst P (sym name)
-      (in_span (digest (folded a.0)) slot k low few span (kind_of (literal_of a.1)) (value_of (literal_of a.1)) (covered (literal_of a.1) (and_left (is_of test choice (literal_of a.1)) (same_name (asked test) a.0) chosen)))
+      (in_span (digest (folded a.0)) slot k low few span (kind_of (literal_of a.1)) (value_of (literal_of a.1))
+      (covered (literal_of a.1) (and_left (is_of test choice (literal_of a.1)) (same_name (asked test) a.0) chosen)))
 
   -- what is chosen in it is what is chosen of all
   pub slots_in_span : (m : BTreeMap Place Entry) (slots : BTreeSet ℕ) (rows : List Row) → AreIndexed m slots rows → IsOrdered place_order m
       → IsPermutation (chosen_slots test choice (spanned test span m)) (chosen_slots test choice (rows_entries rows))
   slots_in_span m slots rows index ordered =
-      slots_between (is_chosen test choice) (first_place (digest (folded (asked test))) span) (last_place (digest (folded (asked test))) span) m slots rows index ordered own_in_range
+      slots_between (is_chosen test choice) (first_place (digest (folded (asked test))) span) (last_place (digest (folded (asked test))) span) m slots rows
+      index ordered own_in_range
 
 -- ---- two choices together
 
@@ -174,11 +187,13 @@ module _ {X : Type 0} (p q r : X → Bool) (either : (x : X) → r x ≡ (p x ||
       by : IsPermutation (filter p xs ++ filter q xs) (filter r xs) → (a : Bool) → p x ≡ a → (b : Bool) → q x ≡ b → shown (p x) (q x) (r x)
       by rest true h true k = absurd (true≢false (sym k ∙ apart x h))
       by rest true h false k = both true false h k (IsPermutation-cons x _ _ rest)
-      by rest false h true k = both false true h k (IsPermutation-trans _ _ _ (IsPermutation-middle (filter p xs) x (filter q xs)) (IsPermutation-cons x _ _ rest))
+      by rest false h true k =
+          both false true h k (IsPermutation-trans _ _ _ (IsPermutation-middle (filter p xs) x (filter q xs)) (IsPermutation-cons x _ _ rest))
       by rest false h false k = both false false h k rest
 
 -- what keeps an ad is open, or true of the test
-open_or_true : (test : Test) (entry : Entry) → is_kept (asked test) (λ found. beq (keeps test found) true) entry ≡ (is_chosen test Choice.Open entry || is_chosen test Choice.True entry)
+open_or_true : (test : Test) (entry : Entry)
+    → is_kept (asked test) (λ found. beq (keeps test found) true) entry ≡ (is_chosen test Choice.Open entry || is_chosen test Choice.True entry)
 open_or_true test entry = by entry.literal (same_name (asked test) entry.name)
   where
     yes : (b : Bool) → b ≡ (b || false)
@@ -196,7 +211,8 @@ open_or_true test entry = by entry.literal (same_name (asked test) entry.name)
 not_both_chosen : (test : Test) (entry : Entry) → is_chosen test Choice.Open entry ≡ true → is_chosen test Choice.True entry ≡ false
 not_both_chosen test entry h = by entry.literal h
   where
-    by : (found : Option Lit) → (is_of test Choice.Open found && same_name (asked test) entry.name) ≡ true → (is_of test Choice.True found && same_name (asked test) entry.name) ≡ false
+    by : (found : Option Lit) → (is_of test Choice.Open found && same_name (asked test) entry.name) ≡ true
+        → (is_of test Choice.True found && same_name (asked test) entry.name) ≡ false
     by None h = refl
     by (Some lit) h = absurd (true≢false (sym h))
 
@@ -208,7 +224,8 @@ untrue test entry = by entry.literal
     false_if true n = refl
     false_if false n = refl
 
-    by : (found : Option Lit) → (beq (keeps test found) false && same_name (asked test) entry.name) ≡ (is_of test Choice.Untrue found && same_name (asked test) entry.name)
+    by : (found : Option Lit)
+        → (beq (keeps test found) false && same_name (asked test) entry.name) ≡ (is_of test Choice.Untrue found && same_name (asked test) entry.name)
     by None = refl
     by (Some lit) = false_if (holds_with test lit) (same_name (asked test) entry.name)
 
@@ -231,7 +248,8 @@ module _ (n : List ℕ) (keep : Option Lit → Bool) (judge : Row → Bool)
       ∙ chosen (judge row) (kept-rows rows (All-tail IsRow row rows ads))
     where
       chosen : (b : Bool) → kept_slots n keep (rows_entries rows) ≡ map (λ x. x.slot) (filter judge rows)
-          → cond b (row.slot ∷ kept_slots n keep (rows_entries rows)) (kept_slots n keep (rows_entries rows)) ≡ map (λ x. x.slot) (cond b (row ∷ filter judge rows) (filter judge rows))
+          → cond b (row.slot ∷ kept_slots n keep (rows_entries rows)) (kept_slots n keep (rows_entries rows))
+          ≡ map (λ x. x.slot) (cond b (row ∷ filter judge rows) (filter judge rows))
       chosen true e = ap (λ slots. row.slot ∷ slots) e
       chosen false e = e
 
@@ -244,13 +262,16 @@ judged test wanted undefined row = ap (λ b. beq b wanted) (passes-named test ro
     unlike true = refl
     unlike false = refl
 
-    by : (found : Option Tree) → beq (option_map_or (λ t. keeps test (literal_of t)) found (holds_with test Lit.Undefined)) wanted ≡ option_map_or (λ t. beq (keeps test (literal_of t)) wanted) found false
+    by : (found : Option Tree)
+        → beq (option_map_or (λ t. keeps test (literal_of t)) found (holds_with test Lit.Undefined)) wanted
+        ≡ option_map_or (λ t. beq (keeps test (literal_of t)) wanted) found false
     by None = ap (λ b. beq b wanted) undefined ∙ unlike wanted
     by (Some t) = refl
 
 kept-sorted : (test : Test) (wanted : Bool) → holds_with test Lit.Undefined ≡ not wanted → (rows : List Row) → All IsRow rows
     → kept_slots (asked test) (λ found. beq (keeps test found) wanted) (rows_entries rows) ≡ sorted_out test wanted rows
-kept-sorted test wanted undefined = kept-rows (asked test) (λ found. beq (keeps test found) wanted) (λ row. beq (passes test row) wanted) (judged test wanted undefined)
+kept-sorted test wanted undefined =
+    kept-rows (asked test) (λ found. beq (keeps test found) wanted) (λ row. beq (passes test row) wanted) (judged test wanted undefined)
 
 pub sorted_out-passing : (test : Test) (rows : List Row) → sorted_out test true rows ≡ passing_slots test rows
 sorted_out-passing test rows = ap (map (λ row. row.slot)) (filter_agree (λ row. beq (passes test row) true) (passes test) (λ row. same (passes test row)) rows)
@@ -261,7 +282,8 @@ sorted_out-passing test rows = ap (map (λ row. row.slot)) (filter_agree (λ row
 
 -- what is open and what is true, together, is what is kept
 pub joined_slots : (p q r : Entry → Bool) → ((x : Entry) → r x ≡ (p x || q x)) → ((x : Entry) → p x ≡ true → q x ≡ false) → (es : List (Place × Entry))
-    → IsPermutation (map (λ e. e.0.slot) (filter (λ e. p e.1) es) ++ map (λ e. e.0.slot) (filter (λ e. q e.1) es)) (map (λ e. e.0.slot) (filter (λ e. r e.1) es))
+    → IsPermutation (map (λ e. e.0.slot) (filter (λ e. p e.1) es) ++ map (λ e. e.0.slot) (filter (λ e. q e.1) es))
+    (map (λ e. e.0.slot) (filter (λ e. r e.1) es))
 joined_slots p q r either apart es =
     let Q : List ℕ → Type 0 = λ slots. IsPermutation slots (map (λ e. e.0.slot) (filter (λ e. r e.1) es)) in
     subst Q (map-append (λ e. e.0.slot) (filter (λ e. p e.1) es) (filter (λ e. q e.1) es))
@@ -274,10 +296,13 @@ passing_chosen test rows undefined ads =
     let es = rows_entries rows in
     let P : List ℕ → Type 0 = λ slots. IsPermutation (chosen_slots test Choice.Open es ++ chosen_slots test Choice.True es) slots in
     subst P (kept-sorted test true undefined rows ads ∙ sorted_out-passing test rows)
-    (joined_slots (is_chosen test Choice.Open) (is_chosen test Choice.True) (is_kept (asked test) (λ found. beq (keeps test found) true)) (open_or_true test) (not_both_chosen test) es)
+    (joined_slots (is_chosen test Choice.Open) (is_chosen test Choice.True) (is_kept (asked test) (λ found. beq (keeps test found) true)) (open_or_true test)
+    (not_both_chosen test) es)
 
 -- and by one that is
-pub failing_chosen : (test : Test) (rows : List Row) → holds_with test Lit.Undefined ≡ true → All IsRow rows → chosen_slots test Choice.Untrue (rows_entries rows) ≡ sorted_out test false rows
+pub failing_chosen : (test : Test) (rows : List Row) → holds_with test Lit.Undefined ≡ true → All IsRow rows
+    → chosen_slots test Choice.Untrue (rows_entries rows) ≡ sorted_out test false rows
 failing_chosen test rows undefined ads =
-    ap (map (λ e. e.0.slot)) (sym (filter_agree (λ e. is_kept (asked test) (λ found. beq (keeps test found) false) e.1) (λ e. is_chosen test Choice.Untrue e.1) (λ e. untrue test e.1) (rows_entries rows)))
+    ap (map (λ e. e.0.slot)) (sym (filter_agree (λ e. is_kept (asked test) (λ found. beq (keeps test found) false) e.1) (λ e. is_chosen test Choice.Untrue e.1)
+    (λ e. untrue test e.1) (rows_entries rows)))
     ∙ kept-sorted test false undefined rows ads

@@ -1,5 +1,6 @@
 -- Slots as sets of numbers, and what an index answers.
-use Rattle.std.proofs.Common.{refl, arith, ◌≡◌, ◌∙◌, ap, sym, subst, true≢false, ℕ, ◌+◌, ◌-◌, length-append, Bool, true, false, not, ◌&&◌, ◌||◌, ◌==◌, cond, List, [], ◌∷◌, ◌++◌, map, filter, length, Option, None, Some, is_some, nat_eq, nat_cmp, IsPermutation}
+use Rattle.std.proofs.Common.{refl, arith, ◌≡◌, ◌∙◌, ap, sym, subst, true≢false, ℕ, ◌+◌, ◌-◌, length-append, Bool, true, false, not, ◌&&◌, ◌||◌, ◌==◌, cond}
+use Rattle.std.proofs.Common.{List, [], ◌∷◌, ◌++◌, map, filter, length, Option, None, Some, is_some, nat_eq, nat_cmp, IsPermutation}
 use Rattle.std.specs.Prelude.{count_by}
 use Rattle.std.specs.Bool.{beq}
 use Rattle.std.specs.Cmp.{nat_eq_equiv}
@@ -12,10 +13,12 @@ use Rattle.std.specs.BTreeMap.{BTreeMap, IsOrdered as IsMapOrdered, is_at}
 use Rattle.std.specs.BTreeSet.{BTreeSet, IsOrdered}
 use Rattle.std.proofs.lemmas.List.Filters.{length-filter_both}
 use Rattle.std.proofs.lemmas.List.Kept.{IsStrictlySortedBy-filter}
-use Rattle.std.proofs.lemmas.List.Sorted.{IsPermutation-append, IsPermutation-map, IsPermutation-sym, IsPermutation-trans, length_permutation, list_any-IsPermutation}
+use Rattle.std.proofs.lemmas.List.Sorted.{IsPermutation-append, IsPermutation-map, IsPermutation-sym, IsPermutation-trans, length_permutation}
+use Rattle.std.proofs.lemmas.List.Sorted.{list_any-IsPermutation}
 use Rattle.std.proofs.lemmas.List.Sums.{length-filter}
 use Rattle.std.proofs.lemmas.List.{length-map}
-use Rattle.std.proofs.lemmas.Map.Keys.{IsDistinct-IsPermutation, IsDistinct-from_sorted, IsDistinct-head, IsDistinct-tail, IsStrictlyIncreasing-from_distinct, IsStrictlyIncreasing-from_sorted}
+use Rattle.std.proofs.lemmas.Map.Keys.{IsDistinct-IsPermutation, IsDistinct-from_sorted, IsDistinct-head, IsDistinct-tail, IsStrictlyIncreasing-from_distinct}
+use Rattle.std.proofs.lemmas.Map.Keys.{IsStrictlyIncreasing-from_sorted}
 use Rattle.std.proofs.lemmas.Map.Made.{is_member-filter, length-from_same_keys}
 use Rattle.pool_text.specs.declared.language.Lit.{Lit}
 use Rattle.ad_tree.specs.Frames.{Frame}
@@ -58,12 +61,14 @@ unfolding units
 found-units s [] = refl
 found-units s (x ∷ xs) = by (found-units s xs) (nat_eq s x)
   where
-    by : lookup (nat_eq s) (units xs) ≡ cond (list_any (nat_eq s) xs) (Some tt) None → (b : Bool) → cond b (Some tt) (lookup (nat_eq s) (units xs)) ≡ cond (b || list_any (nat_eq s) xs) (Some tt) None
+    by : lookup (nat_eq s) (units xs) ≡ cond (list_any (nat_eq s) xs) (Some tt) None → (b : Bool)
+        → cond b (Some tt) (lookup (nat_eq s) (units xs)) ≡ cond (b || list_any (nat_eq s) xs) (Some tt) None
     by rest true = refl
     by rest false = rest
 
 -- two lists without repeats that have the same numbers
-same-members : (xs ys : List ℕ) → IsDistinct nat_eq xs → IsDistinct nat_eq ys → ((s : ℕ) → list_any (nat_eq s) xs ≡ list_any (nat_eq s) ys) → IsPermutation xs ys
+same-members : (xs ys : List ℕ) → IsDistinct nat_eq xs → IsDistinct nat_eq ys → ((s : ℕ) → list_any (nat_eq s) xs ≡ list_any (nat_eq s) ys)
+    → IsPermutation xs ys
 same-members xs ys apart apart' same =
     let P : List ℕ → Type 0 = λ ks. IsDistinct nat_eq ks in
     let Q : List ℕ → Type 0 = λ ks. IsPermutation ks ys in
@@ -96,7 +101,8 @@ module _ (p : Row → Bool) where
   all-chosen P [] h = tt
   all-chosen P (row ∷ rows) h = by (all-chosen P rows h.1) (p row)
     where
-      by : AllByRecursion P (map (λ x. x.slot) (filter p rows)) → (b : Bool) → AllByRecursion P (map (λ x. x.slot) (cond b (row ∷ filter p rows) (filter p rows)))
+      by : AllByRecursion P (map (λ x. x.slot) (filter p rows)) → (b : Bool)
+          → AllByRecursion P (map (λ x. x.slot) (cond b (row ∷ filter p rows) (filter p rows)))
       by rest true = (h.0, rest)
       by rest false = rest
 
@@ -105,14 +111,17 @@ module _ (p : Row → Bool) where
   distinct-chosen [] apart = tt
   distinct-chosen (row ∷ rows) apart = by (distinct-chosen rows apart.1) (p row)
     where
-      by : IsDistinct nat_eq (map (λ x. x.slot) (filter p rows)) → (b : Bool) → IsDistinct nat_eq (map (λ x. x.slot) (cond b (row ∷ filter p rows) (filter p rows)))
+      by : IsDistinct nat_eq (map (λ x. x.slot) (filter p rows)) → (b : Bool)
+          → IsDistinct nat_eq (map (λ x. x.slot) (cond b (row ∷ filter p rows) (filter p rows)))
       by rest true = (all-chosen (λ s. nat_eq row.slot s ≡ false) rows apart.0, rest)
       by rest false = rest
 
   -- a slot is among those of the chosen ads where its ad is chosen
-  member-chosen : (rows : List Row) → IsDistinct nat_eq (map (λ row. row.slot) rows) → (s : ℕ) → list_any (nat_eq s) (map (λ row. row.slot) (filter p rows)) ≡ option_map_or (λ fs. p (row_of s fs)) (ad_under s rows) false
+  member-chosen : (rows : List Row) → IsDistinct nat_eq (map (λ row. row.slot) rows) → (s : ℕ)
+      → list_any (nat_eq s) (map (λ row. row.slot) (filter p rows)) ≡ option_map_or (λ fs. p (row_of s fs)) (ad_under s rows) false
   member-chosen [] apart s = refl
-  member-chosen (row ∷ rows) apart s = by (member-chosen rows (IsDistinct-tail nat_eq row.slot (map (λ x. x.slot) rows) apart) s) (row.slot == s) refl (p row) refl
+  member-chosen (row ∷ rows) apart s =
+      by (member-chosen rows (IsDistinct-tail nat_eq row.slot (map (λ x. x.slot) rows) apart) s) (row.slot == s) refl (p row) refl
     where
       under : Option (List Frame)
       under = cond (row.slot == s) (Some row.ad) (ad_under s rows)
@@ -132,7 +141,8 @@ module _ (p : Row → Bool) where
       own : row.slot ≡ s → p (row_of s row.ad) ≡ p row
       own e = ap (λ t. p (row_of t row.ad)) (sym e)
 
-      by : list_any (nat_eq s) (map (λ x. x.slot) (filter p rows)) ≡ option_map_or (λ fs. p (row_of s fs)) (ad_under s rows) false → (b : Bool) → (row.slot == s) ≡ b → (c : Bool) → p row ≡ c
+      by : list_any (nat_eq s) (map (λ x. x.slot) (filter p rows)) ≡ option_map_or (λ fs. p (row_of s fs)) (ad_under s rows) false → (b : Bool)
+          → (row.slot == s) ≡ b → (c : Bool) → p row ≡ c
           → list_any (nat_eq s) (slots (p row)) ≡ option_map_or (λ fs. p (row_of s fs)) under false
       by rest true e true h =
           ap (λ c. list_any (nat_eq s) (slots c)) h
@@ -172,19 +182,23 @@ untrue_covered test (Some lit) h = failing_covered test lit (unnot (holds_with t
 
 -- ---- what is answered
 
-module _ (test : Test) (m : BTreeMap Place Entry) (slots : BTreeSet ℕ) (rows : List Row) (index : AreIndexed m slots rows) (ordered : IsMapOrdered place_order m) where
+module _ (test : Test) (m : BTreeMap Place Entry) (slots : BTreeSet ℕ) (rows : List Row) (index : AreIndexed m slots rows)
+    (ordered : IsMapOrdered place_order m) where
   abbrev chosen : Choice → Span → List ℕ
   chosen choice span = chosen_slots test choice (spanned test span m)
 
   -- where the test isn't true of Undefined
-  pub passing-found : holds_with test Lit.Undefined ≡ false → IsPermutation (chosen Choice.Open open_span ++ chosen Choice.True (passing_span test)) (passing_slots test rows)
+  pub passing-found : holds_with test Lit.Undefined ≡ false
+      → IsPermutation (chosen Choice.Open open_span ++ chosen Choice.True (passing_span test)) (passing_slots test rows)
   passing-found undefined =
       IsPermutation-trans _ _ _
-      (IsPermutation-append _ _ _ _ (slots_in_span test Choice.Open open_span (open_covered test) m slots rows index ordered) (slots_in_span test Choice.True (passing_span test) (true_covered test) m slots rows index ordered))
+      (IsPermutation-append _ _ _ _ (slots_in_span test Choice.Open open_span (open_covered test) m slots rows index ordered)
+      (slots_in_span test Choice.True (passing_span test) (true_covered test) m slots rows index ordered))
       (passing_chosen test rows undefined index.ads)
 
   -- what is found, put in order, is what passes
-  pub passing-sorted : holds_with test Lit.Undefined ≡ false → (found sorted answer : List ℕ) → found ≡ chosen Choice.Open open_span ++ chosen Choice.True (passing_span test)
+  pub passing-sorted : holds_with test Lit.Undefined ≡ false → (found sorted answer : List ℕ)
+      → found ≡ chosen Choice.Open open_span ++ chosen Choice.True (passing_span test)
       → IsPermutation found sorted → answer ≡ sorted → IsPermutation (passing_slots test rows) answer
   passing-sorted undefined found sorted answer is same end =
       let P : List ℕ → Type 0 = λ ys. IsPermutation ys sorted in
@@ -195,7 +209,8 @@ module _ (test : Test) (m : BTreeMap Place Entry) (slots : BTreeSet ℕ) (rows :
   failing-found : holds_with test Lit.Undefined ≡ true → IsPermutation (chosen Choice.Untrue (failing_span test)) (sorted_out test false rows)
   failing-found undefined =
       let P : List ℕ → Type 0 = λ ys. IsPermutation (chosen Choice.Untrue (failing_span test)) ys in
-      subst P (failing_chosen test rows undefined index.ads) (slots_in_span test Choice.Untrue (failing_span test) (untrue_covered test) m slots rows index ordered)
+      subst P (failing_chosen test rows undefined index.ads)
+      (slots_in_span test Choice.Untrue (failing_span test) (untrue_covered test) m slots rows index ordered)
 
   pub distinct-passing : IsDistinct nat_eq (passing_slots test rows)
   distinct-passing = distinct-chosen (passes test) rows index.apart
@@ -213,12 +228,17 @@ module _ (test : Test) (m : BTreeMap Place Entry) (slots : BTreeSet ℕ) (rows :
 
     distinct-others : (failing : List ℕ) → IsDistinct nat_eq (others failing)
     distinct-others failing =
-        distinct-along (eq_by_cmp nat_cmp) nat_eq number_equal (others failing) (IsDistinct-from_sorted nat_cmp (others failing) (IsStrictlySortedBy-filter nat_cmp (λ slot. not (list_any (nat_eq slot) failing)) slots.keys set_ordered))
+        distinct-along (eq_by_cmp nat_cmp) nat_eq number_equal (others failing)
+        (IsDistinct-from_sorted nat_cmp (others failing) (IsStrictlySortedBy-filter nat_cmp (λ slot. not (list_any (nat_eq slot) failing)) slots.keys
+        set_ordered))
 
     pub others-rise : (failing : List ℕ) → IsStrictlyIncreasing (others failing)
-    others-rise failing = IsStrictlyIncreasing-from_sorted (others failing) (IsStrictlySortedBy-filter nat_cmp (λ slot. not (list_any (nat_eq slot) failing)) slots.keys set_ordered)
+    others-rise failing =
+        IsStrictlyIncreasing-from_sorted (others failing) (IsStrictlySortedBy-filter nat_cmp (λ slot. not (list_any (nat_eq slot) failing)) slots.keys
+        set_ordered)
 
-    pub others-pass : (failing : List ℕ) → IsPermutation (chosen Choice.Untrue (failing_span test)) failing → IsPermutation (passing_slots test rows) (others failing)
+    pub others-pass : (failing : List ℕ) → IsPermutation (chosen Choice.Untrue (failing_span test)) failing
+        → IsPermutation (passing_slots test rows) (others failing)
     others-pass failing same = same-members (passing_slots test rows) (others failing) distinct-passing (distinct-others failing) (λ s. sym (member s))
       where
         alike : (s x : ℕ) → nat_eq s x ≡ true → not (list_any (nat_eq s) failing) ≡ not (list_any (nat_eq x) failing)
@@ -229,7 +249,8 @@ module _ (test : Test) (m : BTreeMap Place Entry) (slots : BTreeSet ℕ) (rows :
             sym (list_any-IsPermutation (nat_eq s) _ _ same) ∙ list_any-IsPermutation (nat_eq s) _ _ (failing-found undefined)
             ∙ member-chosen (λ row. beq (passes test row) false) rows index.apart s
 
-        turned : (s : ℕ) (o : Option (List Frame)) → (is_some o && not (option_map_or (λ fs. beq (passes test (row_of s fs)) false) o false)) ≡ option_map_or (λ fs. passes test (row_of s fs)) o false
+        turned : (s : ℕ) (o : Option (List Frame))
+            → (is_some o && not (option_map_or (λ fs. beq (passes test (row_of s fs)) false) o false)) ≡ option_map_or (λ fs. passes test (row_of s fs)) o false
         turned s None = refl
         turned s (Some fs) = by (passes test (row_of s fs))
           where
@@ -246,7 +267,8 @@ module _ (test : Test) (m : BTreeMap Place Entry) (slots : BTreeSet ℕ) (rows :
             ∙ sym (member-chosen (passes test) rows index.apart s)
 
     -- what is found fails; put in order and left out of all, it leaves what passes
-    pub others-sorted : (found failing answer : List ℕ) → found ≡ chosen Choice.Untrue (failing_span test) → IsPermutation found failing → answer ≡ others failing
+    pub others-sorted : (found failing answer : List ℕ) → found ≡ chosen Choice.Untrue (failing_span test) → IsPermutation found failing
+        → answer ≡ others failing
         → IsPermutation (passing_slots test rows) answer
     others-sorted found failing answer is same end =
         let P : List ℕ → Type 0 = λ ys. IsPermutation ys failing in
@@ -257,7 +279,8 @@ module _ (test : Test) (m : BTreeMap Place Entry) (slots : BTreeSet ℕ) (rows :
 
   slots-count : IsOrdered nat_cmp slots → length slots.keys ≡ length rows
   slots-count set_ordered =
-      length-from_same_keys nat_eq_equiv slots.keys (map (λ row. row.slot) rows) (distinct-along (eq_by_cmp nat_cmp) nat_eq number_equal slots.keys (IsDistinct-from_sorted nat_cmp slots.keys set_ordered)) index.apart
+      length-from_same_keys nat_eq_equiv slots.keys (map (λ row. row.slot) rows)
+      (distinct-along (eq_by_cmp nat_cmp) nat_eq number_equal slots.keys (IsDistinct-from_sorted nat_cmp slots.keys set_ordered)) index.apart
       (λ s. member-slots s ∙ sym (any_rows rows s))
       ∙ length-map _ _
     where
@@ -270,14 +293,18 @@ module _ (test : Test) (m : BTreeMap Place Entry) (slots : BTreeSet ℕ) (rows :
 
           by : list_any (nat_eq s) (map (λ row. row.slot) rs) ≡ is_some (ad_under s rs) → (b : Bool) → (r.slot == s) ≡ b
               → (nat_eq s r.slot || list_any (nat_eq s) (map (λ row. row.slot) rs)) ≡ is_some (cond (r.slot == s) (Some r.ad) (ad_under s rs))
-          by rest true e = ap (λ b. b || list_any (nat_eq s) (map (λ row. row.slot) rs)) (sym turn ∙ e) ∙ sym (ap (λ b. is_some (cond b (Some r.ad) (ad_under s rs))) e)
-          by rest false e = ap (λ b. b || list_any (nat_eq s) (map (λ row. row.slot) rs)) (sym turn ∙ e) ∙ rest ∙ sym (ap (λ b. is_some (cond b (Some r.ad) (ad_under s rs))) e)
+          by rest true e =
+              ap (λ b. b || list_any (nat_eq s) (map (λ row. row.slot) rs)) (sym turn ∙ e) ∙ sym (ap (λ b. is_some (cond b (Some r.ad) (ad_under s rs))) e)
+          by rest false e =
+              ap (λ b. b || list_any (nat_eq s) (map (λ row. row.slot) rs)) (sym turn ∙ e) ∙ rest
+              ∙ sym (ap (λ b. is_some (cond b (Some r.ad) (ad_under s rs))) e)
 
   counted : (choice : Choice) (span : Span) → count_by (λ e. is_chosen test choice e.1) (spanned test span m) ≡ length (chosen choice span)
   counted choice span = sym (length-filter (λ e. is_chosen test choice e.1) (spanned test span m)) ∙ sym (length-map _ _)
 
   pub passing-count : holds_with test Lit.Undefined ≡ false
-      → count_by (λ e. is_chosen test Choice.Open e.1) (spanned test open_span m) + count_by (λ e. is_chosen test Choice.True e.1) (spanned test (passing_span test) m) ≡ length (passing_slots test rows)
+      → count_by (λ e. is_chosen test Choice.Open e.1) (spanned test open_span m)
+      + count_by (λ e. is_chosen test Choice.True e.1) (spanned test (passing_span test) m) ≡ length (passing_slots test rows)
   passing-count undefined =
       ap (λ n. n + count_by (λ e. is_chosen test Choice.True e.1) (spanned test (passing_span test) m)) (counted Choice.Open open_span)
       ∙ ap (λ n. length (chosen Choice.Open open_span) + n) (counted Choice.True (passing_span test))
@@ -287,7 +314,8 @@ module _ (test : Test) (m : BTreeMap Place Entry) (slots : BTreeSet ℕ) (rows :
   pub others-count : holds_with test Lit.Undefined ≡ true → IsOrdered nat_cmp slots
       → length slots.keys - count_by (λ e. is_chosen test Choice.Untrue e.1) (spanned test (failing_span test) m) ≡ length (passing_slots test rows)
   others-count undefined set_ordered =
-      let failing : count_by (λ e. is_chosen test Choice.Untrue e.1) (spanned test (failing_span test) m) ≡ length (filter (λ row. beq (passes test row) false) rows)
+      let failing : count_by (λ e. is_chosen test Choice.Untrue e.1) (spanned test (failing_span test) m)
+      ≡ length (filter (λ row. beq (passes test row) false) rows)
       = counted Choice.Untrue (failing_span test) ∙ sym (length_permutation _ _ (failing-found undefined)) ∙ length-map _ _ in
       let both : length (filter (passes test) rows) + length (filter (λ row. beq (passes test row) false) rows) ≡ length rows
       = length-filter_both (passes test) (λ row. beq (passes test row) false) (λ row. unlike (passes test row)) rows in

@@ -1,5 +1,6 @@
 -- All entries of the ads of an index, one ad after another.
-use Rattle.std.proofs.Common.{refl, arith, ◌≡◌, ◌≢◌, ◌<◌, ◌∙◌, ap, sym, true≢false, ℕ, zero, suc, ◌+◌, Bool, true, false, ◌==◌, cond, List, [], ◌∷◌, map, Option, None, Some, option_map, slice_get, nat_eq, zero-add}
+use Rattle.std.proofs.Common.{refl, arith, ◌≡◌, ◌≢◌, ◌<◌, ◌∙◌, ap, sym, true≢false, ℕ, zero, suc, ◌+◌, Bool, true, false, ◌==◌, cond, List, [], ◌∷◌, map}
+use Rattle.std.proofs.Common.{Option, None, Some, option_map, slice_get, nat_eq, zero-add}
 use Rattle.std.specs.List.{IsDistinct, AllByRecursion}
 use Rattle.std.specs.Map.{lookup, keys_of}
 use Rattle.std.specs.Option.{option_and_then, option_map_or}
@@ -46,11 +47,14 @@ shifted i k = omega arith
 get_from-slice : (i : ℕ) (attrs : List (List ℕ × Tree)) (k : ℕ) → get_from i attrs (i + k) ≡ slice_get attrs k
 get_from-slice i [] k = refl
 get_from-slice i (a ∷ attrs) zero = ap (λ b. cond b (Some a) (get_from (suc i) attrs (i + 0))) (here i)
-get_from-slice i (a ∷ attrs) (suc k) = ap (λ b. cond b (Some a) (get_from (suc i) attrs (i + suc k))) (further i k) ∙ ap (get_from (suc i) attrs) (shifted i k) ∙ get_from-slice (suc i) attrs k
+get_from-slice i (a ∷ attrs) (suc k) =
+    ap (λ b. cond b (Some a) (get_from (suc i) attrs (i + suc k))) (further i k) ∙ ap (get_from (suc i) attrs) (shifted i k) ∙ get_from-slice (suc i) attrs k
 
 get_from-below : (i : ℕ) (attrs : List (List ℕ × Tree)) (k : ℕ) → k < i → get_from i attrs k ≡ None
 get_from-below i [] k less = refl
-get_from-below i (a ∷ attrs) k less = let ne : k ≢ i = omega (arith, less) in ap (λ b. cond b (Some a) (get_from (suc i) attrs k)) (differ k i ne) ∙ get_from-below (suc i) attrs k (omega (arith, less))
+get_from-below i (a ∷ attrs) k less =
+    let ne : k ≢ i =
+    omega (arith, less) in ap (λ b. cond b (Some a) (get_from (suc i) attrs k)) (differ k i ne) ∙ get_from-below (suc i) attrs k (omega (arith, less))
 
 -- ---- look-ups
 
@@ -60,7 +64,8 @@ module _ (q : Place) (slot : ℕ) (rest : List (Place × Entry)) where
   onto-other other k [] = refl
   onto-other other k (a ∷ attrs) = by (onto-other other (suc k) attrs) (at q (place_of slot k a)) refl
     where
-      by : lookup (at q) (entries_onto slot (suc k) attrs rest) ≡ lookup (at q) rest → (b : Bool) → at q (place_of slot k a) ≡ b → lookup (at q) (entries_onto slot k (a ∷ attrs) rest) ≡ lookup (at q) rest
+      by : lookup (at q) (entries_onto slot (suc k) attrs rest) ≡ lookup (at q) rest → (b : Bool) → at q (place_of slot k a) ≡ b
+          → lookup (at q) (entries_onto slot k (a ∷ attrs) rest) ≡ lookup (at q) rest
       by others true e = absurd (other (ap (λ p. p.slot) (at_place q (place_of slot k a) e)))
       by others false e = ap (λ b. cond b (Some (entry_of a)) (lookup (at q) (entries_onto slot (suc k) attrs rest))) e ∙ others
 
@@ -78,16 +83,20 @@ onto q slot rest none k (a ∷ attrs) = by (onto q slot rest none (suc k) attrs)
     tail = lookup (at q) (entries_onto slot (suc k) attrs rest)
 
     by : tail ≡ option_and_then (placed q slot) (get_from (suc k) attrs q.attr) → (b : Bool) → at q (place_of slot k a) ≡ b → (c : Bool) → (q.attr == k) ≡ c
-        → cond (at q (place_of slot k a)) (Some (entry_of a)) tail ≡ option_and_then (placed q slot) (cond (q.attr == k) (Some a) (get_from (suc k) attrs q.attr))
+        → cond (at q (place_of slot k a)) (Some (entry_of a)) tail
+        ≡ option_and_then (placed q slot) (cond (q.attr == k) (Some a) (get_from (suc k) attrs q.attr))
     by others b e true same =
         let attr : q.attr ≡ k = agree q.attr k same in
         by_head b e attr
-        ∙ sym (ap (λ c. option_and_then (placed q slot) (cond c (Some a) (get_from (suc k) attrs q.attr))) same ∙ ap (λ j. cond (at q (place_of slot j a)) (Some (entry_of a)) None) attr)
+        ∙ sym (ap (λ c. option_and_then (placed q slot) (cond c (Some a) (get_from (suc k) attrs q.attr))) same
+        ∙ ap (λ j. cond (at q (place_of slot j a)) (Some (entry_of a)) None) attr)
       where
-        by_head : (b : Bool) → at q (place_of slot k a) ≡ b → q.attr ≡ k → cond (at q (place_of slot k a)) (Some (entry_of a)) tail ≡ cond (at q (place_of slot k a)) (Some (entry_of a)) None
+        by_head : (b : Bool) → at q (place_of slot k a) ≡ b → q.attr ≡ k
+            → cond (at q (place_of slot k a)) (Some (entry_of a)) tail ≡ cond (at q (place_of slot k a)) (Some (entry_of a)) None
         by_head true e attr = ap (λ c. cond c (Some (entry_of a)) tail) e ∙ sym (ap (λ c. cond c (Some (entry_of a)) None) e)
         by_head false e attr =
-            ap (λ c. cond c (Some (entry_of a)) tail) e ∙ others ∙ ap (option_and_then (placed q slot)) (get_from-below (suc k) attrs q.attr (omega (arith, attr)))
+            ap (λ c. cond c (Some (entry_of a)) tail) e ∙ others
+            ∙ ap (option_and_then (placed q slot)) (get_from-below (suc k) attrs q.attr (omega (arith, attr)))
             ∙ sym (ap (λ c. cond c (Some (entry_of a)) None) e)
     by others true e false other = absurd (true≢false (sym (same_attr (ap (λ p. p.attr) (at_place q (place_of slot k a) e))) ∙ other))
       where
@@ -104,7 +113,8 @@ place_equal = eq_by_cmp_equiv place_order_total
 own : (q : Place) (slot : ℕ) → slot ≡ q.slot → (attrs : List (List ℕ × Tree)) → option_and_then (placed q slot) (slice_get attrs q.attr) ≡ entry_in attrs q
 own q slot same attrs = by (slice_get attrs q.attr)
   where
-    by : (o : Option (List ℕ × Tree)) → option_and_then (placed q slot) o ≡ cond (option_map_or (λ a. is_at (place_order (place_of q.slot q.attr a)) q) o false) (option_map entry_of o) None
+    by : (o : Option (List ℕ × Tree))
+        → option_and_then (placed q slot) o ≡ cond (option_map_or (λ a. is_at (place_order (place_of q.slot q.attr a)) q) o false) (option_map entry_of o) None
     by None = refl
     by (Some a) =
         ap (λ s. cond (at q (place_of s q.attr a)) (Some (entry_of a)) None) same
@@ -125,7 +135,8 @@ lookup-rows (r ∷ rows) apart q = by (lookup-rows rows (IsDistinct-tail nat_eq 
     attrs = attributes_at r.ad 0
 
     by : lookup (at q) (rows_entries rows) ≡ entry_at rows q → (b : Bool) → (r.slot == q.slot) ≡ b
-        → lookup (at q) (entries_onto r.slot 0 attrs (rows_entries rows)) ≡ option_and_then (λ fs. entry_in (attributes_at fs 0) q) (cond (r.slot == q.slot) (Some r.ad) (ad_under q.slot rows))
+        → lookup (at q) (entries_onto r.slot 0 attrs (rows_entries rows))
+        ≡ option_and_then (λ fs. entry_in (attributes_at fs 0) q) (cond (r.slot == q.slot) (Some r.ad) (ad_under q.slot rows))
     by others true e =
         let same : r.slot ≡ q.slot = agree r.slot q.slot e in
         onto q r.slot (rows_entries rows) (others ∙ nothing q r.slot rows same none) 0 attrs
@@ -146,17 +157,20 @@ differ-all : (test : Place → Bool) (es : List (Place × Entry)) → lookup tes
 differ-all test [] none = tt
 differ-all test (e ∷ es) none = by (differ-all test es) (test e.0) refl
   where
-    by : (lookup test es ≡ None → AllByRecursion (λ k. test k ≡ false) (keys_of es)) → (b : Bool) → test e.0 ≡ b → AllByRecursion (λ k. test k ≡ false) (keys_of (e ∷ es))
+    by : (lookup test es ≡ None → AllByRecursion (λ k. test k ≡ false) (keys_of es)) → (b : Bool) → test e.0 ≡ b
+        → AllByRecursion (λ k. test k ≡ false) (keys_of (e ∷ es))
     by rest true h = let no : Some e.1 ≡ None = sym (ap (λ b. cond b (Some e.1) (lookup test es)) h) ∙ none in absurd (cc)
     by rest false h = (h, rest (sym (ap (λ b. cond b (Some e.1) (lookup test es)) h) ∙ none))
 
-distinct-onto : (slot : ℕ) (rest : List (Place × Entry)) → IsDistinct (eq_by_cmp place_order) (keys_of rest) → ((j : ℕ) (a : List ℕ × Tree) → lookup (at (place_of slot j a)) rest ≡ None)
+distinct-onto : (slot : ℕ) (rest : List (Place × Entry)) → IsDistinct (eq_by_cmp place_order) (keys_of rest)
+    → ((j : ℕ) (a : List ℕ × Tree) → lookup (at (place_of slot j a)) rest ≡ None)
     → (k : ℕ) (attrs : List (List ℕ × Tree)) → IsDistinct (eq_by_cmp place_order) (keys_of (entries_onto slot k attrs rest))
 distinct-onto slot rest apart none k [] = apart
 distinct-onto slot rest apart none k (a ∷ attrs) =
     IsDistinct-cons (eq_by_cmp place_order) (place_of slot k a) (keys_of (entries_onto slot (suc k) attrs rest))
     (differ-all (at (place_of slot k a)) (entries_onto slot (suc k) attrs rest)
-    (onto (place_of slot k a) slot rest (none k a) (suc k) attrs ∙ ap (option_and_then (placed (place_of slot k a) slot)) (get_from-below (suc k) attrs k (omega arith))))
+    (onto (place_of slot k a) slot rest (none k a) (suc k) attrs
+    ∙ ap (option_and_then (placed (place_of slot k a) slot)) (get_from-below (suc k) attrs k (omega arith))))
     (distinct-onto slot rest apart none (suc k) attrs)
 
 pub distinct-rows : (rows : List Row) → IsDistinct nat_eq (map (λ row. row.slot) rows) → IsDistinct (eq_by_cmp place_order) (keys_of (rows_entries rows))
@@ -165,4 +179,6 @@ distinct-rows [] apart = tt
 distinct-rows (r ∷ rows) apart =
     let tail = IsDistinct-tail nat_eq r.slot (map (λ row. row.slot) rows) apart in
     distinct-onto r.slot (rows_entries rows) (distinct-rows rows tail)
-    (λ j a. lookup-rows rows tail (place_of r.slot j a) ∙ nothing (place_of r.slot j a) r.slot rows refl (none-under r.slot rows (IsDistinct-head nat_eq r.slot (map (λ row. row.slot) rows) apart))) 0 (attributes_at r.ad 0)
+    (λ j a. lookup-rows rows tail (place_of r.slot j a)
+    ∙ nothing (place_of r.slot j a) r.slot rows refl (none-under r.slot rows (IsDistinct-head nat_eq r.slot (map (λ row. row.slot) rows) apart))) 0
+    (attributes_at r.ad 0)

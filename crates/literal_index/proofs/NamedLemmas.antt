@@ -1,5 +1,6 @@
 -- The attribute of a name, and what a test says of an ad by it.
-use Rattle.std.proofs.Common.{refl, arith, ◌≡◌, ◌∙◌, ap, sym, true≢false, ℕ, suc, ◌+◌, Bool, true, false, not, ◌&&◌, ◌||◌, cond, List, [], ◌∷◌, map, filter, length, Option, None, Some, option_map, slice_get, nat_lt, one-add}
+use Rattle.std.proofs.Common.{refl, arith, ◌≡◌, ◌∙◌, ap, sym, true≢false, ℕ, suc, ◌+◌, Bool, true, false, not, ◌&&◌, ◌||◌, cond, List, [], ◌∷◌, map, filter}
+use Rattle.std.proofs.Common.{length, Option, None, Some, option_map, slice_get, nat_lt, one-add}
 use Rattle.std.specs.Prelude.{position, bytes_eq}
 use Rattle.std.specs.List.{position_or_len}
 use Rattle.std.specs.Option.{option_and_then, option_map_or, option_or}
@@ -24,7 +25,8 @@ first_named n [] = None
 first_named n (a ∷ attrs) = cond (same_name n a.0) (Some a.1) (first_named n attrs)
 
 -- that is what the name has in the frame
-named : (n : List ℕ) (attrs : List (List ℕ × Tree)) → option_and_then (λ k. option_map (λ a. a.1) (slice_get attrs k)) (position (same_name n) (names_of attrs)) ≡ first_named n attrs
+named : (n : List ℕ) (attrs : List (List ℕ × Tree))
+    → option_and_then (λ k. option_map (λ a. a.1) (slice_get attrs k)) (position (same_name n) (names_of attrs)) ≡ first_named n attrs
 named n [] = refl
 named n (a ∷ attrs) = by (named n attrs) (same_name n a.0) refl
   where
@@ -44,7 +46,8 @@ named n (a ∷ attrs) = by (named n attrs) (same_name n a.0) refl
     behind m = ap (slice_get (a ∷ attrs)) (one-add m)
 
     step : (m len : ℕ) (b : Bool) → nat_lt m len ≡ b
-        → option_and_then at (cond (nat_lt (1 + m) (suc len)) (Some (1 + m)) None) ≡ option_and_then (λ k. option_map (λ b. b.1) (slice_get attrs k)) (cond (nat_lt m len) (Some m) None)
+        → option_and_then at (cond (nat_lt (1 + m) (suc len)) (Some (1 + m)) None)
+        ≡ option_and_then (λ k. option_map (λ b. b.1) (slice_get attrs k)) (cond (nat_lt m len) (Some m) None)
     step m len true e =
         ap (λ b. option_and_then at (cond b (Some (1 + m)) None)) (more m len ∙ e) ∙ ap (option_map (λ b. b.1)) (behind m)
         ∙ sym (ap (λ b. option_and_then (λ k. option_map (λ b. b.1) (slice_get attrs k)) (cond b (Some m) None)) e)
@@ -52,7 +55,8 @@ named n (a ∷ attrs) = by (named n attrs) (same_name n a.0) refl
         ap (λ b. option_and_then at (cond b (Some (1 + m)) None)) (more m len ∙ e)
         ∙ sym (ap (λ b. option_and_then (λ k. option_map (λ b. b.1) (slice_get attrs k)) (cond b (Some m) None)) e)
 
-    by : option_and_then (λ k. option_map (λ b. b.1) (slice_get attrs k)) (position (same_name n) (names_of attrs)) ≡ first_named n attrs → (b : Bool) → same_name n a.0 ≡ b
+    by : option_and_then (λ k. option_map (λ b. b.1) (slice_get attrs k)) (position (same_name n) (names_of attrs)) ≡ first_named n attrs → (b : Bool)
+        → same_name n a.0 ≡ b
         → option_and_then at (position (same_name n) (a.0 ∷ names_of attrs)) ≡ cond (same_name n a.0) (Some a.1) (first_named n attrs)
     by others true e =
         ap (λ b. option_and_then at (cond (nat_lt (cond (not b) (1 + rest) 0) (length (a.0 ∷ names_of attrs))) (Some (cond (not b) (1 + rest) 0)) None)) e
@@ -85,7 +89,8 @@ passes_found test (Some (node (literal lit) ts)) = notnot (holds_with test lit)
     notnot false = refl
 passes_found test (Some t) = refl
 
-pub passes-named : (test : Test) (row : Row) → passes test row ≡ option_map_or (λ t. keeps test (literal_of t)) (first_named (asked test) (attributes_at row.ad 0)) (holds_with test Lit.Undefined)
+pub passes-named : (test : Test) (row : Row)
+    → passes test row ≡ option_map_or (λ t. keeps test (literal_of t)) (first_named (asked test) (attributes_at row.ad 0)) (holds_with test Lit.Undefined)
 passes-named test row =
     passes_found test (expr_named row.ad 0 (asked test))
     ∙ ap (λ found. option_map_or (λ t. keeps test (literal_of t)) found (holds_with test Lit.Undefined)) (named (asked test) (attributes_at row.ad 0))
@@ -130,15 +135,18 @@ module _ (n : List ℕ) (keep : Option Lit → Bool) (slot : ℕ) (rest : List (
       by true h = absurd (true≢false (sym ((bytes_eq-Decides a b).1 (sym (bytes_same b a h))) ∙ e))
 
   -- none of the attributes has the name
-  kept-none : (k : ℕ) (attrs : List (List ℕ × Tree)) → has_name n (names_of attrs) ≡ false → kept_slots n keep (entries_onto slot k attrs rest) ≡ kept_slots n keep rest
+  kept-none : (k : ℕ) (attrs : List (List ℕ × Tree)) → has_name n (names_of attrs) ≡ false
+      → kept_slots n keep (entries_onto slot k attrs rest) ≡ kept_slots n keep rest
   kept-none k [] none = refl
   kept-none k (a ∷ attrs) none = by (kept-none (suc k) attrs) (same_name a.0 n) refl
     where
-      by : (has_name n (names_of attrs) ≡ false → kept_slots n keep (entries_onto slot (suc k) attrs rest) ≡ kept_slots n keep rest) → (b : Bool) → same_name a.0 n ≡ b
+      by : (has_name n (names_of attrs) ≡ false → kept_slots n keep (entries_onto slot (suc k) attrs rest) ≡ kept_slots n keep rest) → (b : Bool)
+          → same_name a.0 n ≡ b
           → kept_slots n keep (entries_onto slot k (a ∷ attrs) rest) ≡ kept_slots n keep rest
       by others true e = absurd (true≢false (sym (ap (λ b. b || has_name n (names_of attrs)) e) ∙ none))
       by others false e =
-          ap (λ b. map (λ x. x.0.slot) (cond b ((place_of slot k a, entry_of a) ∷ filter (λ x. is_kept n keep x.1) (entries_onto slot (suc k) attrs rest)) (filter (λ x. is_kept n keep x.1) (entries_onto slot (suc k) attrs rest))))
+          ap (λ b. map (λ x. x.0.slot) (cond b ((place_of slot k a, entry_of a) ∷ filter (λ x. is_kept n keep x.1) (entries_onto slot (suc k) attrs rest))
+          (filter (λ x. is_kept n keep x.1) (entries_onto slot (suc k) attrs rest))))
           (ap (λ b. keep (literal_of a.1) && b) (flip (folded a.0) (folded n) e) ∙ no_and (keep (literal_of a.1)))
           ∙ others (sym (ap (λ b. b || has_name n (names_of attrs)) e) ∙ none)
 
@@ -150,9 +158,12 @@ module _ (n : List ℕ) (keep : Option Lit → Bool) (slot : ℕ) (rest : List (
   kept-apart k (a ∷ attrs) apart = by (kept-apart (suc k) attrs) (same_name n a.0) refl (has_name a.0 (names_of attrs)) refl
     where
       shown : Bool → List ℕ
-      shown b = map (λ x. x.0.slot) (cond b ((place_of slot k a, entry_of a) ∷ filter (λ x. is_kept n keep x.1) (entries_onto slot (suc k) attrs rest)) (filter (λ x. is_kept n keep x.1) (entries_onto slot (suc k) attrs rest)))
+      shown b =
+          map (λ x. x.0.slot) (cond b ((place_of slot k a, entry_of a) ∷ filter (λ x. is_kept n keep x.1) (entries_onto slot (suc k) attrs rest))
+          (filter (λ x. is_kept n keep x.1) (entries_onto slot (suc k) attrs rest)))
 
-      chosen : (c : Bool) → kept_slots n keep (entries_onto slot (suc k) attrs rest) ≡ kept_slots n keep rest → shown c ≡ cond c (slot ∷ kept_slots n keep rest) (kept_slots n keep rest)
+      chosen : (c : Bool) → kept_slots n keep (entries_onto slot (suc k) attrs rest) ≡ kept_slots n keep rest
+          → shown c ≡ cond c (slot ∷ kept_slots n keep rest) (kept_slots n keep rest)
       chosen true e = ap (λ slots. slot ∷ slots) e
       chosen false e = e
 
@@ -161,15 +172,18 @@ module _ (n : List ℕ) (keep : Option Lit → Bool) (slot : ℕ) (rest : List (
           ≡ cond (option_map_or (λ t. keep (literal_of t)) (first_named n attrs) false) (slot ∷ kept_slots n keep rest) (kept_slots n keep rest))
           → (b : Bool) → same_name n a.0 ≡ b → (c : Bool) → has_name a.0 (names_of attrs) ≡ c
           → shown (keep (literal_of a.1) && same_name n a.0)
-          ≡ cond (option_map_or (λ t. keep (literal_of t)) (cond (same_name n a.0) (Some a.1) (first_named n attrs)) false) (slot ∷ kept_slots n keep rest) (kept_slots n keep rest)
+          ≡ cond (option_map_or (λ t. keep (literal_of t)) (cond (same_name n a.0) (Some a.1) (first_named n attrs)) false) (slot ∷ kept_slots n keep rest)
+          (kept_slots n keep rest)
       by others b e true h = absurd (true≢false (sym apart ∙ ap (λ c. not c && are_apart (names_of attrs)) h))
       by others true e false h =
           ap (λ b. shown (keep (literal_of a.1) && b)) e
           ∙ ap shown (yes_and (keep (literal_of a.1)))
           ∙ chosen (keep (literal_of a.1)) (kept-none (suc k) attrs (has-along n a.0 (names_of attrs) (bytes_same (folded n) (folded a.0) e) ∙ h))
-          ∙ sym (ap (λ b. cond (option_map_or (λ t. keep (literal_of t)) (cond b (Some a.1) (first_named n attrs)) false) (slot ∷ kept_slots n keep rest) (kept_slots n keep rest)) e)
+          ∙ sym (ap (λ b. cond (option_map_or (λ t. keep (literal_of t)) (cond b (Some a.1) (first_named n attrs)) false) (slot ∷ kept_slots n keep rest)
+          (kept_slots n keep rest)) e)
       by others false e false h =
           ap (λ b. shown (keep (literal_of a.1) && b)) e
           ∙ ap shown (no_and (keep (literal_of a.1)))
           ∙ others (sym (ap (λ c. not c && are_apart (names_of attrs)) h) ∙ apart)
-          ∙ sym (ap (λ b. cond (option_map_or (λ t. keep (literal_of t)) (cond b (Some a.1) (first_named n attrs)) false) (slot ∷ kept_slots n keep rest) (kept_slots n keep rest)) e)
+          ∙ sym (ap (λ b. cond (option_map_or (λ t. keep (literal_of t)) (cond b (Some a.1) (first_named n attrs)) false) (slot ∷ kept_slots n keep rest)
+          (kept_slots n keep rest)) e)

@@ -30,7 +30,8 @@ exact_places a b e =
     let kind = then_equal (kind_order a.kind b.kind) _ name.1 in
     let value = then_equal (int_cmp a.value b.value) _ kind.1 in
     let slot = then_equal (nat_cmp a.slot b.slot) (nat_cmp a.attr b.attr) value.1 in
-    by (exact_unsigned a.name b.name name.0) (exact_kinds a.kind b.kind kind.0) (exact_signed a.value b.value value.0) (exact_unsigned a.slot b.slot slot.0) (exact_unsigned a.attr b.attr slot.1)
+    by (exact_unsigned a.name b.name name.0) (exact_kinds a.kind b.kind kind.0) (exact_signed a.value b.value value.0) (exact_unsigned a.slot b.slot slot.0)
+    (exact_unsigned a.attr b.attr slot.1)
   where
     then_equal : (x y : Ordering) → ordering_then x y ≡ Equal → (x ≡ Equal) × (y ≡ Equal)
     then_equal Equal y e = (refl, e)
@@ -40,7 +41,8 @@ exact_places a b e =
     made : ℕ → Kind → ℤ → ℕ → ℕ → Place
     made name kind value slot attr = record { name = name; kind = kind; value = value; slot = slot; attr = attr }
 
-    by : a.name ≡ b.name → a.kind ≡ b.kind → a.value ≡ b.value → a.slot ≡ b.slot → a.attr ≡ b.attr → made a.name a.kind a.value a.slot a.attr ≡ made b.name b.kind b.value b.slot b.attr
+    by : a.name ≡ b.name → a.kind ≡ b.kind → a.value ≡ b.value → a.slot ≡ b.slot → a.attr ≡ b.attr
+        → made a.name a.kind a.value a.slot a.attr ≡ made b.name b.kind b.value b.slot b.attr
     by n k v s t = cc
 
 -- a query that finds a place is that place

@@ -1,5 +1,6 @@
 -- What the tests of a pair choose, against the ads that pass both.
-use Rattle.std.proofs.Common.{refl, ◌≡◌, ◌<◌, ◌∙◌, ap, ap₂, sym, subst, true≢false, ℕ, ◌+◌, ◌^◌, length-append, Bool, true, false, not, ◌&&◌, ◌||◌, cond, List, [], ◌∷◌, ◌++◌, length, Option, None, Some, nat_eq, IsPermutation, Ordering, Less, Equal, Greater}
+use Rattle.std.proofs.Common.{refl, ◌≡◌, ◌<◌, ◌∙◌, ap, ap₂, sym, subst, true≢false, ℕ, ◌+◌, ◌^◌, length-append, Bool, true, false, not, ◌&&◌, ◌||◌, cond, List}
+use Rattle.std.proofs.Common.{[], ◌∷◌, ◌++◌, length, Option, None, Some, nat_eq, IsPermutation, Ordering, Less, Equal, Greater}
 use Rattle.std.specs.Prelude.{bytes_eq, count_by}
 use Rattle.std.specs.Ordering.{is_le, is_lt, is_gt, ord_max, ord_min, ordering_reverse}
 use Rattle.std.specs.List.Sorted.{IsNonDecreasing, IsStrictlyIncreasing}
@@ -101,7 +102,8 @@ module _ (a b c d : Place) where
         by false e = at (ap is_le (place_order_total.antisymm stop start) ∙ not_less (place_order start stop) e) (is_lt (place_order start q)) refl
 
     -- what stands between a and b, and between c and d, stands in what both have in common
-    in_both : range_contains place_order (Bound.Included a) (Bound.Included b) q ≡ true → range_contains place_order (Bound.Included c) (Bound.Included d) q ≡ true
+    in_both : range_contains place_order (Bound.Included a) (Bound.Included b) q ≡ true
+        → range_contains place_order (Bound.Included c) (Bound.Included d) q ≡ true
         → range_contains place_order (Bound.Included start) (Bound.Included (ord_max place_order stop start)) q ≡ true
     in_both h k =
         and_both _ _ (behind_start (and_left _ _ h) (and_left _ _ k)) (up_to_end (up_to_stop (and_right _ _ h) (and_right _ _ k)))
@@ -139,20 +141,26 @@ module _ (first second : Test) (pair : is_pair first second ≡ true) where
   abbrev keeps_both : Option Lit → Bool
   keeps_both found = keeps first found && keeps second found
 
-  judged_both : (row : Row) → passes_both first second row ≡ option_map_or (λ t. keeps_both (literal_of t)) (first_named (asked first) (attributes_at row.ad 0)) false
+  judged_both : (row : Row)
+      → passes_both first second row ≡ option_map_or (λ t. keeps_both (literal_of t)) (first_named (asked first) (attributes_at row.ad 0)) false
   judged_both row =
       ap₂ (λ a b. a && b) (passes-named first row)
-      (passes-named second row ∙ ap (λ found. option_map_or (λ t. keeps second (literal_of t)) found (holds_with second Lit.Undefined)) (sym (first_along (asked first) (asked second) (attributes_at row.ad 0) one_name)))
+      (passes-named second row ∙ ap (λ found. option_map_or (λ t. keeps second (literal_of t)) found (holds_with second Lit.Undefined)) (sym
+      (first_along (asked first) (asked second) (attributes_at row.ad 0) one_name)))
       ∙ by (first_named (asked first) (attributes_at row.ad 0))
     where
-      by : (found : Option Tree) → (option_map_or (λ t. keeps first (literal_of t)) found (holds_with first Lit.Undefined) && option_map_or (λ t. keeps second (literal_of t)) found (holds_with second Lit.Undefined))
+      by : (found : Option Tree)
+          → (option_map_or (λ t. keeps first (literal_of t)) found (holds_with first Lit.Undefined)
+          && option_map_or (λ t. keeps second (literal_of t)) found (holds_with second Lit.Undefined))
           ≡ option_map_or (λ t. keeps_both (literal_of t)) found false
       by None = ap (λ b. b && holds_with second Lit.Undefined) first_undefined
       by (Some t) = refl
 
   -- what keeps an ad is open, or true of both
   open_or_both : (entry : Entry) → is_kept (asked first) keeps_both entry ≡ (is_chosen first Choice.Open entry || is_chosen_by_both first second entry)
-  open_or_both entry = by entry.literal (same_name (asked first) entry.name) ∙ ap (λ n. is_chosen first Choice.Open entry || (is_chosen first Choice.True entry && (is_of second Choice.True entry.literal && n))) other_name
+  open_or_both entry =
+      by entry.literal (same_name (asked first) entry.name)
+      ∙ ap (λ n. is_chosen first Choice.Open entry || (is_chosen first Choice.True entry && (is_of second Choice.True entry.literal && n))) other_name
     where
       other_name : same_name (asked first) entry.name ≡ same_name (asked second) entry.name
       other_name = ap (λ bytes. bytes_eq bytes (folded entry.name)) one_name
@@ -168,7 +176,8 @@ module _ (first second : Test) (pair : is_pair first second ≡ true) where
       both true false false = refl
       both false k n = refl
 
-      by : (found : Option Lit) (n : Bool) → (keeps_both found && n) ≡ ((is_of first Choice.Open found && n) || ((is_of first Choice.True found && n) && (is_of second Choice.True found && n)))
+      by : (found : Option Lit) (n : Bool)
+          → (keeps_both found && n) ≡ ((is_of first Choice.Open found && n) || ((is_of first Choice.True found && n) && (is_of second Choice.True found && n)))
       by None n = yes n
       by (Some lit) n = both (holds_with first lit) (holds_with second lit) n
 
@@ -176,7 +185,8 @@ module _ (first second : Test) (pair : is_pair first second ≡ true) where
   not_open_and_both entry h = by entry.literal h
     where
       by : (found : Option Lit) → (is_of first Choice.Open found && same_name (asked first) entry.name) ≡ true
-          → ((is_of first Choice.True found && same_name (asked first) entry.name) && (is_of second Choice.True found && same_name (asked second) entry.name)) ≡ false
+          → ((is_of first Choice.True found && same_name (asked first) entry.name) && (is_of second Choice.True found && same_name (asked second) entry.name))
+          ≡ false
       by None h = refl
       by (Some lit) h = absurd (true≢false (sym h))
 
@@ -189,7 +199,9 @@ module _ (first second : Test) (pair : is_pair first second ≡ true) where
   both_covered : (slot k : ℕ) (a : List ℕ × Tree) → slot < 2 ^ 64 → k < 2 ^ 32 → is_chosen_by_both first second (entry_of a) ≡ true
       → range_contains place_order (Bound.Included lowest) (Bound.Included highest) (place_of slot k a) ≡ true
   both_covered slot k a low few chosen =
-      let P : List ℕ → Type 0 = λ bytes. range_contains place_order (Bound.Included (first_place (digest bytes) (passing_span second))) (Bound.Included (last_place (digest bytes) (passing_span second))) (place_of slot k a) ≡ true in
+      let P : List ℕ → Type 0 =
+      λ bytes. range_contains place_order (Bound.Included (first_place (digest bytes) (passing_span second)))
+      (Bound.Included (last_place (digest bytes) (passing_span second))) (place_of slot k a) ≡ true in
       spans_in_both (digest (folded (asked first))) (passing_span first) (passing_span second) (place_of slot k a)
       (own_in_range first Choice.True (passing_span first) (true_covered first) slot k a low few (and_left _ _ chosen))
       (subst P (sym one_name) (own_in_range second Choice.True (passing_span second) (true_covered second) slot k a low few (and_right _ _ chosen)))
@@ -205,15 +217,18 @@ module _ (first second : Test) (pair : is_pair first second ≡ true) where
 
     both-found : IsPermutation (opened ++ both) (passing_both first second rows)
     both-found =
-        let P : List ℕ → Type 0 = λ ys. IsPermutation (chosen_slots first Choice.Open (rows_entries rows) ++ slots_of_both first second (rows_entries rows)) ys in
+        let P : List ℕ → Type 0 =
+        λ ys. IsPermutation (chosen_slots first Choice.Open (rows_entries rows) ++ slots_of_both first second (rows_entries rows)) ys in
         IsPermutation-trans _ _ _
         (IsPermutation-append _ _ _ _ (slots_in_span first Choice.Open open_span (open_covered first) m slots rows index ordered)
         (slots_between (is_chosen_by_both first second) lowest highest m slots rows index ordered both_covered))
         (subst P (kept-rows (asked first) keeps_both (passes_both first second) judged_both rows index.ads)
-        (joined_slots (is_chosen first Choice.Open) (is_chosen_by_both first second) (is_kept (asked first) keeps_both) open_or_both not_open_and_both (rows_entries rows)))
+        (joined_slots (is_chosen first Choice.Open) (is_chosen_by_both first second) (is_kept (asked first) keeps_both) open_or_both not_open_and_both
+        (rows_entries rows)))
 
     -- what is found, put in order, is what passes both
-    pub both-sorted : (found sorted answer : List ℕ) → found ≡ opened ++ both → IsPermutation found sorted → answer ≡ sorted → IsPermutation (passing_both first second rows) answer
+    pub both-sorted : (found sorted answer : List ℕ) → found ≡ opened ++ both → IsPermutation found sorted → answer ≡ sorted
+        → IsPermutation (passing_both first second rows) answer
     both-sorted found sorted answer is same end =
         let P : List ℕ → Type 0 = λ ys. IsPermutation ys sorted in
         let Q : List ℕ → Type 0 = λ ys. IsPermutation (passing_both first second rows) ys in
@@ -221,9 +236,11 @@ module _ (first second : Test) (pair : is_pair first second ≡ true) where
 
     pub both-rise : (found : List ℕ) → IsNonDecreasing found → IsPermutation (passing_both first second rows) found → IsStrictlyIncreasing found
     both-rise found rising same =
-        IsStrictlyIncreasing-from_distinct found rising (IsDistinct-IsPermutation nat_eq nat_eq_equiv.symm _ _ same (distinct-chosen (passes_both first second) rows index.apart))
+        IsStrictlyIncreasing-from_distinct found rising (IsDistinct-IsPermutation nat_eq nat_eq_equiv.symm _ _ same
+        (distinct-chosen (passes_both first second) rows index.apart))
 
-    pub both-count : count_by (λ e. is_chosen first Choice.Open e.1) (spanned first open_span m) + count_by (λ e. is_chosen_by_both first second e.1) (spanned_by_both first second m)
+    pub both-count : count_by (λ e. is_chosen first Choice.Open e.1) (spanned first open_span m)
+        + count_by (λ e. is_chosen_by_both first second e.1) (spanned_by_both first second m)
         ≡ length (passing_both first second rows)
     both-count =
         ap₂ (λ a b. a + b)

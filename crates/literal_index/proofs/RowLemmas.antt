@@ -1,5 +1,6 @@
 -- Ads under slots, as they come and go.
-use Rattle.std.proofs.Common.{refl, arith, ◌≡◌, ◌≢◌, ◌∙◌, ap, sym, true≢false, ℕ, Bool, true, false, ◌&&◌, ◌==◌, cond, List, [], ◌∷◌, ◌++◌, map, length, Option, None, Some, option_map, slice_get, is_some, nat_lt, nat_eq, nat_cmp}
+use Rattle.std.proofs.Common.{refl, arith, ◌≡◌, ◌≢◌, ◌∙◌, ap, sym, true≢false, ℕ, Bool, true, false, ◌&&◌, ◌==◌, cond, List, [], ◌∷◌, ◌++◌, map, length, Option}
+use Rattle.std.proofs.Common.{None, Some, option_map, slice_get, is_some, nat_lt, nat_eq, nat_cmp}
 use Rattle.std.specs.List.{AllByRecursion}
 use Rattle.std.specs.Option.{option_and_then, option_map_or}
 use Rattle.std.specs.BTreeMap.{BTreeMap, get, is_at}
@@ -38,12 +39,14 @@ module _ (slot : ℕ) (fs : List Frame) where
     where
       by : (ad_under slot (before ++ after) ≡ None → ad_under s (before ++ row_of slot fs ∷ after) ≡ cond (slot == s) (Some fs) (ad_under s (before ++ after)))
           → (here there : Bool) → (r.slot == slot) ≡ here → (r.slot == s) ≡ there
-          → cond (r.slot == s) (Some r.ad) (ad_under s (before ++ row_of slot fs ∷ after)) ≡ cond (slot == s) (Some fs) (cond (r.slot == s) (Some r.ad) (ad_under s (before ++ after)))
+          → cond (r.slot == s) (Some r.ad) (ad_under s (before ++ row_of slot fs ∷ after))
+          ≡ cond (slot == s) (Some fs) (cond (r.slot == s) (Some r.ad) (ad_under s (before ++ after)))
       by rest true there h t = let no : Some r.ad ≡ None = sym (ap (λ b. cond b (Some r.ad) (ad_under slot (before ++ after))) h) ∙ none in absurd (cc)
       by rest false true h t =
           let other : slot ≢ s = λ e. true≢false (sym (ap (λ n. r.slot == n) e ∙ t) ∙ h) in
           ap (λ b. cond b (Some r.ad) (ad_under s (before ++ row_of slot fs ∷ after))) t
-          ∙ sym (ap (λ b. cond b (Some fs) (cond (r.slot == s) (Some r.ad) (ad_under s (before ++ after)))) (differ slot s other) ∙ ap (λ b. cond b (Some r.ad) (ad_under s (before ++ after))) t)
+          ∙ sym (ap (λ b. cond b (Some fs) (cond (r.slot == s) (Some r.ad) (ad_under s (before ++ after)))) (differ slot s other)
+          ∙ ap (λ b. cond b (Some r.ad) (ad_under s (before ++ after))) t)
       by rest false false h t =
           ap (λ b. cond b (Some r.ad) (ad_under s (before ++ row_of slot fs ∷ after))) t
           ∙ rest (sym (ap (λ b. cond b (Some r.ad) (ad_under slot (before ++ after))) h) ∙ none)
@@ -109,7 +112,8 @@ abbrev stood : Place → Option (List Frame) → Option Entry
 stood q = option_and_then (λ gs. entry_in (attributes_at gs 0) q)
 
 -- the same ads under slots are as well those of the entries and the slots
-pub same-placed : (m : BTreeMap Place Entry) (slots : BTreeSet ℕ) (under other : ℕ → Option (List Frame)) → ((s : ℕ) → under s ≡ other s) → ArePlaced m slots under → ArePlaced m slots other
+pub same-placed : (m : BTreeMap Place Entry) (slots : BTreeSet ℕ) (under other : ℕ → Option (List Frame)) → ((s : ℕ) → under s ≡ other s)
+    → ArePlaced m slots under → ArePlaced m slots other
 same-placed m slots under other same placed = record {
   entries = λ q. placed.entries q ∙ ap (option_and_then (λ gs. entry_in (attributes_at gs 0) q)) (same q.slot);
   slots = λ s. placed.slots s ∙ ap is_some (same s);
@@ -122,7 +126,9 @@ module _ (slot : ℕ) (fs : List Frame) (under : ℕ → Option (List Frame)) (m
   pub entered : ArePlaced m slots under → under slot ≡ None → HasPut (length attrs) slot attrs m n
       → ((s : ℕ) → contains nat_cmp more s ≡ cond (is_at (nat_cmp slot) s) true (contains nat_cmp slots s)) → ArePlaced n more (with_ad slot fs under)
   entered placed none put inserted = record {
-    entries = λ q. put q ∙ ap (λ b. cond b (option_map entry_of (slice_get attrs q.attr)) (get place_order m q)) (all-below slot attrs q) ∙ at_q q (slot == q.slot) refl;
+    entries =
+        λ q. put q ∙ ap (λ b. cond b (option_map entry_of (slice_get attrs q.attr)) (get place_order m q)) (all-below slot attrs q)
+        ∙ at_q q (slot == q.slot) refl;
     slots = λ s. inserted s ∙ ap (λ b. cond b true (contains nat_cmp slots s)) (at_number slot s) ∙ at_s s (slot == s) refl;
   }
     where
@@ -130,7 +136,8 @@ module _ (slot : ℕ) (fs : List Frame) (under : ℕ → Option (List Frame)) (m
       at_s s true e = ap (λ b. cond b true (contains nat_cmp slots s)) e ∙ sym (ap (λ b. is_some (cond b (Some fs) (under s))) e)
       at_s s false e = ap (λ b. cond b true (contains nat_cmp slots s)) e ∙ placed.slots s ∙ sym (ap (λ b. is_some (cond b (Some fs) (under s))) e)
 
-      at_q : (q : Place) (b : Bool) → (slot == q.slot) ≡ b → cond (is_place slot attrs q) (option_map entry_of (slice_get attrs q.attr)) (get place_order m q) ≡ stood q (with_ad slot fs under q.slot)
+      at_q : (q : Place) (b : Bool) → (slot == q.slot) ≡ b
+          → cond (is_place slot attrs q) (option_map entry_of (slice_get attrs q.attr)) (get place_order m q) ≡ stood q (with_ad slot fs under q.slot)
       at_q q true e =
           let same : slot ≡ q.slot = agree slot q.slot e in
           let empty : get place_order m q ≡ None = placed.entries q ∙ ap (stood q) (ap under (sym same) ∙ none) in
@@ -171,7 +178,8 @@ module _ (slot : ℕ) (fs : List Frame) (under : ℕ → Option (List Frame)) (m
           ∙ sym (ap (λ b. stood q (cond b None (under q.slot))) e)
 
 -- what was put under a slot and taken out again leaves all as it was
-pub unchanged : (slot : ℕ) (attrs : List (List ℕ × Tree)) (under : ℕ → Option (List Frame)) (m n : BTreeMap Place Entry) (slots mid back : BTreeSet ℕ) → ArePlaced m slots under → under slot ≡ None
+pub unchanged : (slot : ℕ) (attrs : List (List ℕ × Tree)) (under : ℕ → Option (List Frame)) (m n : BTreeMap Place Entry) (slots mid back : BTreeSet ℕ)
+    → ArePlaced m slots under → under slot ≡ None
     → (((q : Place) → is_place slot attrs q ≡ true → get place_order m q ≡ None) → IsSame m n)
     → ((s : ℕ) → contains nat_cmp mid s ≡ cond (is_at (nat_cmp slot) s) true (contains nat_cmp slots s))
     → ((s : ℕ) → contains nat_cmp back s ≡ cond (is_at (nat_cmp slot) s) false (contains nat_cmp mid s)) → ArePlaced n back under

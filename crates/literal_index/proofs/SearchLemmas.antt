@@ -18,7 +18,8 @@ pub search_says : (xs : List ℕ) (x : ℕ) (r : Result ℕ ℕ) → IsBinarySea
 search_says xs x r found rising = by r (searched xs x r found (λ i j. rising i j 0))
   where
     by : (s : Result ℕ ℕ)
-        → MatchResult s (λ i. (i < length xs) × (get_or xs i 0 ≡ x)) (λ i. (i ≤ length xs) × ((k : ℕ) → k < i → get_or xs k 0 < x) × ((k : ℕ) → i ≤ k → k < length xs → x < get_or xs k 0))
+        → MatchResult s (λ i. (i < length xs) × (get_or xs i 0 ≡ x))
+        (λ i. (i ≤ length xs) × ((k : ℕ) → k < i → get_or xs k 0 < x) × ((k : ℕ) → i ≤ k → k < length xs → x < get_or xs k 0))
         → is_ok s ≡ list_any (nat_eq x) xs
     by (Ok i) h = sym (list_any_at (nat_eq x) xs i 0 h.0 (equal x (get_or xs i 0) h.1))
     by (Err i) h = sym (list_any_none (nat_eq x) xs (All-from_get_or (λ y. nat_eq x y ≡ false) xs 0 (λ k lt. unequal x (get_or xs k 0) (λ e. by_side k lt e))))

@@ -1,5 +1,6 @@
 -- Where the attributes stand that pass a test.
-use Rattle.std.proofs.Common.{refl, arith, ◌≡◌, ◌<◌, ◌∙◌, ap, sym, subst, ℕ, ◌+◌, ◌*◌, ◌-◌, ◌/◌, ◌%◌, ◌^◌, ℤ, pos, negsuc, true≢false, Ordering, Bool, true, false, not, ◌&&◌, cond, nat_cmp, List, [], ◌∷◌, Some, Less, Equal, Greater, mod-lt}
+use Rattle.std.proofs.Common.{refl, arith, ◌≡◌, ◌<◌, ◌∙◌, ap, sym, subst, ℕ, ◌-◌, ◌/◌, ◌^◌, ℤ, pos, negsuc, true≢false, Ordering, Bool, true, false, not, ◌&&◌}
+use Rattle.std.proofs.Common.{cond, nat_cmp, List, Some, Less, Equal, Greater}
 use Rattle.std.specs.Prelude.{◌*ℤ◌, int_lt, int_le}
 use Rattle.std.specs.Cmp.{int_cmp_total, nat_cmp_total}
 use Rattle.std.specs.Cmp.Lexicographic.{slice_cmp}
@@ -13,6 +14,7 @@ use Rattle.std.proofs.lemmas.Map.Text.{is_eq-slice_cmp}
 use Rattle.pool_text.specs.Folding.{folded, text_order}
 use Rattle.pool_text.specs.declared.language.BinOp.{BinOp}
 use Rattle.pool_text.specs.declared.language.Lit.{Lit}
+use Rattle.pool_text.proofs.DigestLemmas.{digest_from-small}
 use Rattle.ad_value.specs.Plain.{plain_of_lit}
 use Rattle.ad_value.specs.Logic.{is_true}
 use Rattle.ad_value.specs.Numbers.{million}
@@ -21,10 +23,11 @@ use Rattle.conjunct_plan.specs.declared.test.Test.{Test}
 use Rattle.literal_index.specs.declared.place.Place.{Place}
 use Rattle.literal_index.specs.declared.place.Kind.{Kind}
 use Rattle.literal_index.specs.declared.span.Span.{Span}
-use Rattle.literal_index.specs.Digests.{digest, digest_from, number_of_text}
+use Rattle.literal_index.specs.Digests.{digest, number_of_text}
 use Rattle.literal_index.specs.Entries.{holds_with, kind_of, value_of}
 use Rattle.literal_index.specs.Order.{kind_order, place_order}
-use Rattle.literal_index.specs.Spans.{Covers, IsLiteral, failing_span, first_place, last_place, passing_span, numbers_from, numbers_up_to, span_at, span_from, span_up_to}
+use Rattle.literal_index.specs.Spans.{Covers, IsLiteral, failing_span, first_place, last_place, passing_span, numbers_from, numbers_up_to, span_at, span_from}
+use Rattle.literal_index.specs.Spans.{span_up_to}
 use Rattle.literal_index.proofs.Orders.{kind_order_self}
 
 -- ---- places in a span
@@ -44,7 +47,8 @@ first_end Less s t h = refl
 first_end Equal s t h = grind arith
 first_end Greater s t h = absurd (cc)
 
-last_end : (o : Ordering) (s t : ℕ) → s < 2 ^ 64 → t < 2 ^ 32 → is_lt o ≡ false → is_lt (ordering_then o (ordering_then (nat_cmp (2 ^ 64 - 1) s) (nat_cmp (2 ^ 32 - 1) t))) ≡ false
+last_end : (o : Ordering) (s t : ℕ) → s < 2 ^ 64 → t < 2 ^ 32 → is_lt o ≡ false
+    → is_lt (ordering_then o (ordering_then (nat_cmp (2 ^ 64 - 1) s) (nat_cmp (2 ^ 32 - 1) t))) ≡ false
 last_end Less s t a b h = absurd (cc)
 last_end Equal s t a b h = grind arith
 last_end Greater s t a b h = refl
@@ -75,12 +79,17 @@ module _ (name slot attr : ℕ) (low : slot < 2 ^ 64) (few : attr < 2 ^ 32) wher
   pub in_span : (span : Span) (kind : Kind) (value : ℤ) → Covers span kind value
       → range_contains place_order (Bound.Included (first_place name span)) (Bound.Included (last_place name span)) (place kind value) ≡ true
   in_span (Span.At k n) kind value covers =
-      let P : Kind → Type 0 = λ j. range_contains place_order (Bound.Included (first_place name (Span.At k n))) (Bound.Included (last_place name (Span.At k n))) (place j value) ≡ true in
-      let Q : ℤ → Type 0 = λ v. range_contains place_order (Bound.Included (first_place name (Span.At k n))) (Bound.Included (last_place name (Span.At k n))) (place k v) ≡ true in
+      let P : Kind → Type 0 =
+      λ j. range_contains place_order (Bound.Included (first_place name (Span.At k n))) (Bound.Included (last_place name (Span.At k n))) (place j value)
+      ≡ true in
+      let Q : ℤ → Type 0 =
+      λ v. range_contains place_order (Bound.Included (first_place name (Span.At k n))) (Bound.Included (last_place name (Span.At k n))) (place k v)
+      ≡ true in
       subst P covers.0 (subst Q covers.1
       (both _ _ (ap is_le (tied name _ ∙ kind_tied k _) ∙ first_end (int_cmp n n) slot attr (ap is_le (tied_itself int_cmp_total n)))
       (ap is_lt (tied name _ ∙ kind_tied k _) ∙ last_end (int_cmp n n) slot attr low few (ap is_lt (tied_itself int_cmp_total n)))))
-  in_span (Span.UpTo n) Kind.Number value covers = both _ _ (ap is_le (tied name _)) (ap is_lt (tied name _) ∙ last_end (int_cmp n value) slot attr low few (not_above value n covers))
+  in_span (Span.UpTo n) Kind.Number value covers =
+      both _ _ (ap is_le (tied name _)) (ap is_lt (tied name _) ∙ last_end (int_cmp n value) slot attr low few (not_above value n covers))
   in_span (Span.UpTo n) Kind.Open value covers = absurd covers
   in_span (Span.UpTo n) Kind.Undefined value covers = absurd covers
   in_span (Span.UpTo n) Kind.Error value covers = absurd covers
@@ -96,13 +105,10 @@ module _ (name slot attr : ℕ) (low : slot < 2 ^ 64) (few : attr < 2 ^ 32) wher
   in_span Span.Literals Kind.Error value covers = both _ _ (ap is_le (tied name _)) (ap is_lt (tied name _))
   in_span Span.Literals Kind.Number value covers = both _ _ (ap is_le (tied name _)) (ap is_lt (tied name _))
   in_span Span.Literals Kind.Str value covers =
-      both _ _ (ap is_le (tied name _)) (ap is_lt (tied name _) ∙ last_end (int_cmp (pos (2 ^ 63 - 1)) value) slot attr low few (not_above value (pos (2 ^ 63 - 1)) covers))
+      both _ _ (ap is_le (tied name _)) (ap is_lt (tied name _)
+      ∙ last_end (int_cmp (pos (2 ^ 63 - 1)) value) slot attr low few (not_above value (pos (2 ^ 63 - 1)) covers))
 
 -- ---- literals
-
-digest_from_small : (h : ℕ) (bytes : List ℕ) → h < 2 ^ 64 → digest_from h bytes < 2 ^ 64
-digest_from_small h [] small = small
-digest_from_small h (b ∷ bytes) small = digest_from_small (((h * 31) % (2 ^ 64) + b) % (2 ^ 64)) bytes (mod-lt _ (omega arith))
 
 half : (n : ℕ) → n < 2 ^ 64 → is_le (int_cmp (pos (n / 2)) (pos (2 ^ 63 - 1))) ≡ true
 half n h = grind arith
@@ -113,7 +119,7 @@ is_literal Lit.Error = tt
 is_literal (Lit.Boolean b) = tt
 is_literal (Lit.Integer n) = tt
 is_literal (Lit.Decimal m) = tt
-is_literal (Lit.Str t) = half (digest (folded t)) (digest_from_small 0 (folded t) (omega arith))
+is_literal (Lit.Str t) = half (digest (folded t)) (digest_from-small (folded t) 0)
 
 tie : (o : Ordering) → is_eq o ≡ true → o ≡ Equal
 tie Equal h = refl
@@ -156,7 +162,8 @@ scaled_eq m n h =
 
 module _ (op : BinOp) (G : Lit → Lit → Type 0)
     (scaled : (m n : ℤ) → is_true (integer_row op m n) ≡ true → is_true (decimal_row op (m *ℤ million) (n *ℤ million)) ≡ true)
-    (number : (a b : Lit) → kind_of (Some a) ≡ Kind.Number → kind_of (Some b) ≡ Kind.Number → is_true (decimal_row op (value_of (Some a)) (value_of (Some b))) ≡ true → G a b)
+    (number : (a b : Lit) → kind_of (Some a) ≡ Kind.Number → kind_of (Some b) ≡ Kind.Number
+    → is_true (decimal_row op (value_of (Some a)) (value_of (Some b))) ≡ true → G a b)
     (text : (s t : List ℕ) → is_true (text_row op s t) ≡ true → G (Lit.Str s) (Lit.Str t)) where
   -- a strict comparison is true of two numbers or of two texts alone
   compared : (a b : Lit) → is_true (strict (strict_row op) (plain_of_lit a) (plain_of_lit b)) ≡ true → G a b
@@ -182,7 +189,8 @@ module _ (op : BinOp) (G : Lit → Lit → Type 0)
 
 equal_alike : (a b : Lit) → is_true (binary_value BinOp.Equal (plain_of_lit a) (plain_of_lit b)) ≡ true → IsAlike a b
 equal_alike =
-    compared BinOp.Equal IsAlike scaled_eq (λ a b ka kb h. (ka ∙ sym kb, exact_signed (value_of (Some a)) (value_of (Some b)) (tie (int_cmp (value_of (Some a)) (value_of (Some b))) h)))
+    compared BinOp.Equal IsAlike scaled_eq (λ a b ka kb h.
+    (ka ∙ sym kb, exact_signed (value_of (Some a)) (value_of (Some b)) (tie (int_cmp (value_of (Some a)) (value_of (Some b))) h)))
     (λ s t h. (refl, ap (λ bytes. pos (digest bytes / 2)) (exact_bytes (folded s) (folded t) (tie (text_order s t) h))))
 
 less_le : (x y : ℤ) → int_lt x y ≡ true → is_le (int_cmp x y) ≡ true
@@ -221,7 +229,8 @@ Rises a b = Covers (span_up_to b) (kind_of (Some a)) (value_of (Some a)) × Cove
 abbrev Falls : Lit → Lit → Type 0
 Falls a b = Rises b a
 
-rise : (a b : Lit) → kind_of (Some a) ≡ Kind.Number → kind_of (Some b) ≡ Kind.Number → is_le (int_cmp (value_of (Some a)) (value_of (Some b))) ≡ true → Rises a b
+rise : (a b : Lit) → kind_of (Some a) ≡ Kind.Number → kind_of (Some b) ≡ Kind.Number → is_le (int_cmp (value_of (Some a)) (value_of (Some b))) ≡ true
+    → Rises a b
 rise a b ka kb h = (number_up_to _ _ (value_of (Some a)) (value_of (Some b)) ka kb h, number_from _ _ (value_of (Some b)) (value_of (Some a)) kb ka h)
 
 texts : (s t : List ℕ) → Rises (Lit.Str s) (Lit.Str t)
@@ -234,10 +243,12 @@ most_rises : (a b : Lit) → is_true (binary_value BinOp.AtMost (plain_of_lit a)
 most_rises = compared BinOp.AtMost Rises scaled_le (λ a b ka kb h. rise a b ka kb (most_le (value_of (Some a)) (value_of (Some b)) h)) (λ s t h. texts s t)
 
 greater_falls : (a b : Lit) → is_true (binary_value BinOp.Greater (plain_of_lit a) (plain_of_lit b)) ≡ true → Falls a b
-greater_falls = compared BinOp.Greater Falls (λ m n. scaled_lt n m) (λ a b ka kb h. rise b a kb ka (less_le (value_of (Some b)) (value_of (Some a)) h)) (λ s t h. texts t s)
+greater_falls =
+    compared BinOp.Greater Falls (λ m n. scaled_lt n m) (λ a b ka kb h. rise b a kb ka (less_le (value_of (Some b)) (value_of (Some a)) h)) (λ s t h. texts t s)
 
 least_falls : (a b : Lit) → is_true (binary_value BinOp.AtLeast (plain_of_lit a) (plain_of_lit b)) ≡ true → Falls a b
-least_falls = compared BinOp.AtLeast Falls (λ m n. scaled_le n m) (λ a b ka kb h. rise b a kb ka (most_le (value_of (Some b)) (value_of (Some a)) h)) (λ s t h. texts t s)
+least_falls =
+    compared BinOp.AtLeast Falls (λ m n. scaled_le n m) (λ a b ka kb h. rise b a kb ka (most_le (value_of (Some b)) (value_of (Some a)) h)) (λ s t h. texts t s)
 
 -- ---- tests
 
@@ -271,7 +282,8 @@ failing_covered (Test.Compare n BinOp.NotSame l true) lit h = alike_covered lit 
     unnot : (b : Bool) → not b ≡ false → b ≡ true
     unnot true e = refl
     unnot false e = absurd (cc)
-failing_covered (Test.Compare n BinOp.NotSame l false) lit h = alike_covered lit l (alike_back l lit (same_alike l lit (unnot (is_same (plain_of_lit l) (plain_of_lit lit)) h)))
+failing_covered (Test.Compare n BinOp.NotSame l false) lit h =
+    alike_covered lit l (alike_back l lit (same_alike l lit (unnot (is_same (plain_of_lit l) (plain_of_lit lit)) h)))
   where
     unnot : (b : Bool) → not b ≡ false → b ≡ true
     unnot true e = refl

@@ -1,5 +1,6 @@
 -- Ads that wait, as they come, go and are settled.
-use Rattle.std.proofs.Common.{refl, arith, ◌≡◌, ◌∙◌, ap, sym, subst, ℕ, Bool, true, false, ◌==◌, cond, List, [], ◌∷◌, ◌++◌, map, Option, None, Some, IfSome, is_some, nat_eq, nat_cmp, IsPermutation}
+use Rattle.std.proofs.Common.{refl, arith, ◌≡◌, ◌∙◌, ap, sym, subst, ℕ, Bool, true, false, ◌==◌, cond, List, [], ◌∷◌, ◌++◌, map, Option, None, Some, IfSome}
+use Rattle.std.proofs.Common.{is_some, nat_eq, nat_cmp, IsPermutation}
 use Rattle.std.specs.List.{IsDistinct, list_any}
 use Rattle.std.specs.Map.{lookup}
 use Rattle.std.specs.Option.{option_and_then}
@@ -67,7 +68,8 @@ module _ (slot : ℕ) (fs : List Frame) (before after : List Row) where
   others s none e = sym (ad_under-middle slot fs before after s none ∙ ap (λ b. cond b (Some fs) (ad_under s rows)) e)
 
   -- an ad that was added waits
-  pub kept-added : (m : BTreeMap Place Entry) (slots : BTreeSet ℕ) (old new : BTreeMap ℕ Ad) (ad : Ad) → AreKept m slots old rows → ad_under slot rows ≡ None → IsRow (row_of slot fs)
+  pub kept-added : (m : BTreeMap Place Entry) (slots : BTreeSet ℕ) (old new : BTreeMap ℕ Ad) (ad : Ad) → AreKept m slots old rows → ad_under slot rows ≡ None
+      → IsRow (row_of slot fs)
       → fs ≡ ad_frames ad → Waits slot (Some ad) old new → AreKept m slots new with_row
   kept-added m slots old new ad kept none good is changed = record {
     settled = same-placed m slots (settled_under old rows) (settled_under new with_row) (λ s. at_s s (slot == s) refl) kept.settled;
@@ -90,7 +92,8 @@ module _ (slot : ℕ) (fs : List Frame) (before after : List Row) where
           ap (cond (is_some (get nat_cmp old s)) None) (others s none e)
           ∙ sym (ap (λ (o : Option Ad). cond (is_some o) None (ad_under s with_row)) (elsewhere slot (Some ad) old new changed s e))
 
-  module _ (m : BTreeMap Place Entry) (slots : BTreeSet ℕ) (old new : BTreeMap ℕ Ad) (kept : AreKept m slots old with_row) (changed : Waits slot None old new) where
+  module _ (m : BTreeMap Place Entry) (slots : BTreeSet ℕ) (old new : BTreeMap ℕ Ad) (kept : AreKept m slots old with_row)
+      (changed : Waits slot None old new) where
     distinct : IsDistinct nat_eq (slot ∷ map (λ row. row.slot) rows)
     distinct = IsDistinct-IsPermutation nat_eq nat_eq_equiv.symm _ _ (IsPermutation-map (λ row. row.slot) _ _ moved) kept.apart
 
@@ -104,7 +107,8 @@ module _ (slot : ℕ) (fs : List Frame) (before after : List Row) where
         at_s : (b : Bool) → (slot == s) ≡ b → without_ad slot (settled_under old with_row) s ≡ settled_under new rows s
         at_s true e =
             ap (λ b. cond b None (settled_under old with_row s)) e
-            ∙ sym (ap (λ t. cond (is_some (get nat_cmp new s)) None (ad_under t rows)) (sym (agree slot s e)) ∙ ap (cond (is_some (get nat_cmp new s)) None) none ∙ nobody (is_some (get nat_cmp new s)))
+            ∙ sym (ap (λ t. cond (is_some (get nat_cmp new s)) None (ad_under t rows)) (sym (agree slot s e))
+            ∙ ap (cond (is_some (get nat_cmp new s)) None) none ∙ nobody (is_some (get nat_cmp new s)))
         at_s false e =
             ap (λ b. cond b None (settled_under old with_row s)) e
             ∙ ap (cond (is_some (get nat_cmp old s)) None) (sym (others s none e))
@@ -121,7 +125,8 @@ module _ (slot : ℕ) (fs : List Frame) (before after : List Row) where
 
     -- one that waited isn't among what is searched
     pub waited-outside : is_some (get nat_cmp old slot) ≡ true → ArePlaced m slots (without_ad slot (settled_under old with_row))
-    waited-outside waited = same-placed m slots (settled_under old with_row) (without_ad slot (settled_under old with_row)) (λ s. at_s s (slot == s) refl) kept.settled
+    waited-outside waited =
+        same-placed m slots (settled_under old with_row) (without_ad slot (settled_under old with_row)) (λ s. at_s s (slot == s) refl) kept.settled
       where
         at_s : (s : ℕ) (b : Bool) → (slot == s) ≡ b → settled_under old with_row s ≡ without_ad slot (settled_under old with_row) s
         at_s s true e =
@@ -139,9 +144,12 @@ module _ (slot : ℕ) (fs : List Frame) (before after : List Row) where
 -- ---- settling
 
 -- where none waits all are settled
-pub all-settled : (m : BTreeMap Place Entry) (slots : BTreeSet ℕ) (w : BTreeMap ℕ Ad) (rows : List Row) → ((s : ℕ) → get nat_cmp w s ≡ None) → AreKept m slots w rows → AreIndexed m slots rows
+pub all-settled : (m : BTreeMap Place Entry) (slots : BTreeSet ℕ) (w : BTreeMap ℕ Ad) (rows : List Row) → ((s : ℕ) → get nat_cmp w s ≡ None)
+    → AreKept m slots w rows → AreIndexed m slots rows
 all-settled m slots w rows empty kept =
-    let placed = same-placed m slots (settled_under w rows) (λ s. ad_under s rows) (λ s. ap (λ (o : Option Ad). cond (is_some o) None (ad_under s rows)) (empty s)) kept.settled in
+    let placed =
+    same-placed m slots (settled_under w rows) (λ s. ad_under s rows) (λ s. ap (λ (o : Option Ad). cond (is_some o) None (ad_under s rows)) (empty s))
+    kept.settled in
     record { entries = placed.entries; slots = placed.slots; apart = kept.apart; ads = kept.ads }
 
 -- an index of no ads
@@ -149,7 +157,9 @@ pub none-kept : (m : BTreeMap Place Entry) (slots : BTreeSet ℕ) (w : BTreeMap 
 unfolding IsDistinct
 none-kept m slots w no_entries no_slots no_ads = record {
   settled = record {
-    entries = λ q. ap (lookup (is_at (place_order q))) no_entries ∙ sym (ap (option_and_then (λ fs. entry_in (attributes_at fs 0) q)) (nobody (is_some (get nat_cmp w q.slot))));
+    entries =
+        λ q. ap (lookup (is_at (place_order q))) no_entries
+        ∙ sym (ap (option_and_then (λ fs. entry_in (attributes_at fs 0) q)) (nobody (is_some (get nat_cmp w q.slot))));
     slots = λ s. ap (list_any (is_at (nat_cmp s))) no_slots ∙ sym (ap is_some (nobody (is_some (get nat_cmp w s))));
   };
   waiting = λ s. subst (λ (o : Option Ad). IfSome o (λ a. ad_under s [] ≡ Some (ad_frames a))) (sym (ap (lookup (is_at (nat_cmp s))) no_ads)) tt;

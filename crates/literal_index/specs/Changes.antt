@@ -17,7 +17,8 @@ IsSame old new = (q : Place) → get place_order new q ≡ get place_order old q
 
 -- attribute k of the ad under a slot was put in
 abbrev pub HasPutOne : ℕ → ℕ → (List ℕ × Tree) → BTreeMap Place Entry → BTreeMap Place Entry → Type 0
-HasPutOne slot k a old new = (q : Place) → get place_order new q ≡ (if is_at (place_order (place_of slot k a)) q then Some (entry_of a) else get place_order old q)
+HasPutOne slot k a old new =
+    (q : Place) → get place_order new q ≡ (if is_at (place_order (place_of slot k a)) q then Some (entry_of a) else get place_order old q)
 
 -- the first n attributes of the ad under a slot were put in
 abbrev pub HasPut : ℕ → ℕ → List (List ℕ × Tree) → BTreeMap Place Entry → BTreeMap Place Entry → Type 0

@@ -1,11 +1,7 @@
 -- Numbers that stand for texts in the order of the index.
-use Rattle.std.specs.Prelude.{ℕ, ◌+◌, ◌*◌, ◌/◌, ◌%◌, ◌^◌, ℤ, pos, List, [], ◌∷◌}
+use Rattle.std.specs.Prelude.{ℕ, ◌/◌, ℤ, pos, List}
 use Rattle.pool_text.specs.Folding.{folded}
-
--- a number of 64 bits that bytes give behind those that gave h
-abbrev pub digest_from : ℕ → List ℕ → ℕ
-digest_from h [] = h
-digest_from h (b ∷ bytes) = digest_from (((h * 31) % (2 ^ 64) + b) % (2 ^ 64)) bytes
+use Rattle.pool_text.specs.Digests.{digest_from}
 
 -- a number of 64 bits for bytes
 abbrev pub digest : List ℕ → ℕ

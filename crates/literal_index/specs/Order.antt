@@ -13,8 +13,11 @@ kind_order = (kinds.cmp-value).it
 
 -- by the name, then by the kind, the value, the slot and the attribute
 abbrev pub place_order : Place → Place → Ordering
-place_order = then_cmp (on (λ p. p.name) nat_cmp) (then_cmp (on (λ p. p.kind) kind_order) (then_cmp (on (λ p. p.value) int_cmp) (then_cmp (on (λ p. p.slot) nat_cmp) (on (λ p. p.attr) nat_cmp))))
+place_order =
+    then_cmp (on (λ p. p.name) nat_cmp) (then_cmp (on (λ p. p.kind) kind_order)
+    (then_cmp (on (λ p. p.value) int_cmp) (then_cmp (on (λ p. p.slot) nat_cmp) (on (λ p. p.attr) nat_cmp))))
 
 pub place_order_total : IsTotalOrder place_order
 place_order_total =
-    then_total (on_total (λ p. p.name) nat_cmp_total) (then_total (on_total (λ p. p.kind) laws.total-law) (then_total (on_total (λ p. p.value) int_cmp_total) (then_total (on_total (λ p. p.slot) nat_cmp_total) (on_total (λ p. p.attr) nat_cmp_total))))
+    then_total (on_total (λ p. p.name) nat_cmp_total) (then_total (on_total (λ p. p.kind) laws.total-law)
+    (then_total (on_total (λ p. p.value) int_cmp_total) (then_total (on_total (λ p. p.slot) nat_cmp_total) (on_total (λ p. p.attr) nat_cmp_total))))

@@ -16,10 +16,12 @@ use Rattle.literal_index.specs.Spans.{first_in_both, first_place, last_in_both, 
 -- the entries in a span of the attribute that a test asks for
 abbrev pub spanned : Test → Span → BTreeMap Place Entry → List (Place × Entry)
 spanned test span m =
-    entries_between place_order (Bound.Included (first_place (digest (folded (asked test))) span)) (Bound.Included (last_place (digest (folded (asked test))) span)) m.entries
+    entries_between place_order (Bound.Included (first_place (digest (folded (asked test))) span))
+    (Bound.Included (last_place (digest (folded (asked test))) span)) m.entries
 
 -- the entries where literals stand that can make both tests true, of the attribute that the first asks for
 abbrev pub spanned_by_both : Test → Test → BTreeMap Place Entry → List (Place × Entry)
 spanned_by_both first second m =
     let name = digest (folded (asked first)) in
-    entries_between place_order (Bound.Included (first_in_both name (passing_span first) (passing_span second))) (Bound.Included (last_in_both name (passing_span first) (passing_span second))) m.entries
+    entries_between place_order (Bound.Included (first_in_both name (passing_span first) (passing_span second)))
+    (Bound.Included (last_in_both name (passing_span first) (passing_span second))) m.entries

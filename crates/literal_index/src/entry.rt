@@ -6,14 +6,14 @@ ghost use Rattle.ad_value.specs.Plain.{plain_of_lit};
 ghost use Rattle.conjunct_plan.specs.Decided.{asked, value_with};
 ghost use Rattle.literal_index.specs.Entries.{entry_of, holds_with, is_chosen, is_chosen_by_both, is_of, is_pair, kind_of, literal_of, place_of, value_of};
 
-use crate::digest::{digest, number_of_text};
+use crate::digest::number_of_text;
 use crate::literal::Literal;
 use crate::name::{Name, NameCache};
 use crate::place::{Kind, Place};
 use ad_tree::Expr;
 use ad_value::{MILLION, is_true_of_literals};
 use conjunct_plan::Test;
-use pool_text::{Lit, OutOfMemory, Text, same_folded};
+use pool_text::{Lit, OutOfMemory, Text, name_digest, same_folded};
 use std::alloc::Global;
 
 /// The name of an attribute, and its literal where its expression is one.
@@ -80,7 +80,7 @@ pub fn place_of(slot: usize, attr: u32, name: &Text, expr: &Expr) -> Place
 {
     let found = literal_of(expr);
     Place {
-        name: digest(name.bytes()),
+        name: name_digest(name.bytes()),
         kind: kind_of(found),
         value: value_of(found),
         slot,

@@ -9,12 +9,11 @@ ghost use Rattle.literal_index.specs.Entries.{chosen_slots, is_chosen, is_chosen
 ghost use Rattle.literal_index.specs.Order.{place_order};
 ghost use Rattle.literal_index.specs.Selections.{spanned, spanned_by_both};
 
-use crate::digest::digest;
 use crate::entry::{Choice, Entry, asked};
 use crate::place::Place;
 use crate::span::Span;
 use conjunct_plan::Test;
-use pool_text::{OutOfMemory, Slots};
+use pool_text::{OutOfMemory, Slots, name_digest};
 use std::alloc::Global;
 use std::collections::{BTreeMap, BTreeSet};
 use std::ops::Bound;
@@ -31,7 +30,7 @@ pub fn push_chosen(
     ensures slots { OnOk result (slots.new.items
         ≡ slots.old.items ++ chosen_slots test.now choice (spanned test.now span entries.now)) }
 {
-    let name = digest(asked(test).bytes());
+    let name = name_digest(asked(test).bytes());
     let bounds = (
         Bound::Included(span.first(name)),
         Bound::Included(span.last(name)),
@@ -55,7 +54,7 @@ pub fn count_chosen(
     ensures small { result < 2 ^ 63 }
     ensures count { result ≡ count_by (λ e. is_chosen test.now choice e.1) (spanned test.now span entries.now) }
 {
-    let name = digest(asked(test).bytes());
+    let name = name_digest(asked(test).bytes());
     let bounds = (
         Bound::Included(span.first(name)),
         Bound::Included(span.last(name)),
@@ -77,7 +76,7 @@ pub fn count_chosen_within(
     ensures ordered { IsOrdered place_order entries.now }
     ensures count { result ≡ min (count_by (λ e. is_chosen test.now choice e.1) (spanned test.now span entries.now)) most }
 {
-    let name = digest(asked(test).bytes());
+    let name = name_digest(asked(test).bytes());
     let bounds = (
         Bound::Included(span.first(name)),
         Bound::Included(span.last(name)),
@@ -100,7 +99,7 @@ pub fn push_chosen_by_both(
     ensures slots { OnOk result (slots.new.items
         ≡ slots.old.items ++ slots_of_both first.now second.now (spanned_by_both first.now second.now entries.now)) }
 {
-    let name = digest(asked(first).bytes());
+    let name = name_digest(asked(first).bytes());
     let (one, other) = (Span::passing(first), Span::passing(second));
     let bounds = (
         Bound::Included(one.first_in_both(other, name)),
@@ -124,7 +123,7 @@ pub fn count_chosen_by_both_within(
     ensures ordered { IsOrdered place_order entries.now }
     ensures count { result ≡ min (count_by (λ e. is_chosen_by_both first.now second.now e.1) (spanned_by_both first.now second.now entries.now)) most }
 {
-    let name = digest(asked(first).bytes());
+    let name = name_digest(asked(first).bytes());
     let (one, other) = (Span::passing(first), Span::passing(second));
     let bounds = (
         Bound::Included(one.first_in_both(other, name)),

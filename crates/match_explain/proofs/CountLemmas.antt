@@ -1,5 +1,6 @@
 -- Counts of the ads for which conjuncts hold.
-use Rattle.std.proofs.Common.{◌≡◌, ◌∙◌, ap, sym, refl, ℕ, zero, suc, ◌+◌, ◌<◌, ◌≤◌, add-one, Bool, true, false, if◌then◌else◌, List, [], ◌∷◌, count_by, get_or, length, map, set, take, arith, Some, slice_get}
+use Rattle.std.proofs.Common.{◌≡◌, ◌∙◌, ap, sym, refl, ℕ, zero, suc, ◌+◌, ◌<◌, ◌≤◌, add-one, Bool, true, false, if◌then◌else◌}
+use Rattle.std.proofs.Common.{List, [], ◌∷◌, count_by, get_or, length, map, set, take, arith, Some, slice_get}
 use Rattle.std.proofs.lemmas.List.Sums.{count_by-le-length, count_by_more_no, count_by_more_yes}
 use Rattle.std.proofs.lemmas.Option.{get_or_from_slice_get, slice_get_within}
 use Rattle.ad_tree.specs.Frames.{Frame}
@@ -73,7 +74,8 @@ module _ (moment : ℕ) (request : List Frame) where
     same = get_or_from_slice_get ads i advert advert here
 
     -- one ad more
-    holding-next : (t : Tree) → one_more (holds_for moment request advert.ad t) (holding moment request (take i ads) t) ≡ holding moment request (take (i + 1) ads) t
+    holding-next : (t : Tree)
+        → one_more (holds_for moment request advert.ad t) (holding moment request (take i ads) t) ≡ holding moment request (take (i + 1) ads) t
     holding-next t = by (holds_for moment request advert.ad t) refl
       where
         passes : Advert → Bool
@@ -83,6 +85,8 @@ module _ (moment : ℕ) (request : List Frame) where
         by true is = sym (count_by_more_yes passes ads i advert within (ap passes same ∙ is))
         by false is = sym (count_by_more_no passes ads i advert within (ap passes same ∙ is))
 
-    pub counts-next : (ts : List Tree) → counted (map (holds_for moment request advert.ad) ts) (map (holding moment request (take i ads)) ts) ≡ map (holding moment request (take (i + 1) ads)) ts
+    pub counts-next : (ts : List Tree)
+        → counted (map (holds_for moment request advert.ad) ts) (map (holding moment request (take i ads)) ts)
+        ≡ map (holding moment request (take (i + 1) ads)) ts
     counts-next [] = refl
     counts-next (t ∷ ts) = (λ k. (holding-next t) k ∷ (counts-next ts) k)

@@ -1,5 +1,6 @@
 -- The first of a list that fails a test.
-use Rattle.std.proofs.Common.{◌≡◌, ◌∙◌, ap, sym, refl, ℕ, zero, suc, ◌+◌, add-one, Bool, true, false, cond, List, [], ◌∷◌, take, map, Option, None, Some, option_map, slice_get}
+use Rattle.std.proofs.Common.{◌≡◌, ◌∙◌, ap, sym, refl, ℕ, zero, suc, ◌+◌, add-one, Bool, true, false, cond, List, [], ◌∷◌, take, map}
+use Rattle.std.proofs.Common.{Option, None, Some, option_map, slice_get}
 use Rattle.std.specs.Option.{option_map_or}
 use Rattle.ad_tree.specs.Tree.{Tree}
 use Rattle.conjunct_plan.specs.Tests.{conjuncts, requirement_expr}
@@ -13,7 +14,8 @@ module _ {X : Type 0} (test : X → Bool) where
   suc-none None is = refl
   suc-none (Some n) is = absurd (cc)
 
-  none-suc : (xs : List X) (i : ℕ) (x : X) → slice_get xs i ≡ Some x → first_failing test (take i xs) ≡ None → test x ≡ true → first_failing test (take (suc i) xs) ≡ None
+  none-suc : (xs : List X) (i : ℕ) (x : X) → slice_get xs i ≡ Some x → first_failing test (take i xs) ≡ None → test x ≡ true
+      → first_failing test (take (suc i) xs) ≡ None
   none-suc [] i x is none passes = absurd (cc)
   none-suc (y ∷ xs) zero x is none passes =
       let same : y ≡ x = cc in
@@ -26,7 +28,8 @@ module _ {X : Type 0} (test : X → Bool) where
       by rest true is = ap (option_map suc) (rest (suc-none (first_failing test (take i xs)) is))
       by rest false is = absurd (cc)
 
-  found-suc : (xs : List X) (i : ℕ) (x : X) → slice_get xs i ≡ Some x → first_failing test (take i xs) ≡ None → test x ≡ false → first_failing test xs ≡ Some (suc i)
+  found-suc : (xs : List X) (i : ℕ) (x : X) → slice_get xs i ≡ Some x → first_failing test (take i xs) ≡ None → test x ≡ false
+      → first_failing test xs ≡ Some (suc i)
   found-suc [] i x is none fails = absurd (cc)
   found-suc (y ∷ xs) zero x is none fails =
       let same : y ≡ x = cc in
@@ -40,11 +43,13 @@ module _ {X : Type 0} (test : X → Bool) where
       by rest false is = absurd (cc)
 
   -- a list that passes up to an element, which passes too
-  pub none-more : (xs : List X) (i : ℕ) (x : X) → slice_get xs i ≡ Some x → first_failing test (take i xs) ≡ None → test x ≡ true → first_failing test (take (i + 1) xs) ≡ None
+  pub none-more : (xs : List X) (i : ℕ) (x : X) → slice_get xs i ≡ Some x → first_failing test (take i xs) ≡ None → test x ≡ true
+      → first_failing test (take (i + 1) xs) ≡ None
   none-more xs i x is none passes = rw (add-one i) (none-suc xs i x is none passes)
 
   -- or which is the first that fails
-  pub found-here : (xs : List X) (i : ℕ) (x : X) → slice_get xs i ≡ Some x → first_failing test (take i xs) ≡ None → test x ≡ false → first_failing test xs ≡ Some (i + 1)
+  pub found-here : (xs : List X) (i : ℕ) (x : X) → slice_get xs i ≡ Some x → first_failing test (take i xs) ≡ None → test x ≡ false
+      → first_failing test xs ≡ Some (i + 1)
   found-here xs i x is none fails = rw (add-one i) (found-suc xs i x is none fails)
 
   -- of elements of another list
@@ -57,9 +62,12 @@ pub against-truths : (w : PlainWorld) (p : AdPlace) (o : Option Tree) → requir
     → failing w p ≡ against o (first_failing (λ b. b) (map (holds w p) (option_map_or conjuncts o [])))
 against-truths w p o is = ap (λ found. option_map_or (λ t. first_failing (holds w p) (conjuncts t)) found (Some 0)) is ∙ by o
   where
-    by : (found : Option Tree) → option_map_or (λ t. first_failing (holds w p) (conjuncts t)) found (Some 0) ≡ against found (first_failing (λ b. b) (map (holds w p) (option_map_or conjuncts found [])))
+    by : (found : Option Tree)
+        → option_map_or (λ t. first_failing (holds w p) (conjuncts t)) found (Some 0)
+        ≡ against found (first_failing (λ b. b) (map (holds w p) (option_map_or conjuncts found [])))
     by None = refl
     by (Some t) = sym (failing-map (λ b. b) (holds w p) (conjuncts t))
 
-pub failing-found : (w : PlainWorld) (p : AdPlace) (t : Tree) → requirement_expr (frames_of_ad w p.ad) p.frame ≡ Some t → failing w p ≡ first_failing (holds w p) (conjuncts t)
+pub failing-found : (w : PlainWorld) (p : AdPlace) (t : Tree) → requirement_expr (frames_of_ad w p.ad) p.frame ≡ Some t
+    → failing w p ≡ first_failing (holds w p) (conjuncts t)
 failing-found w p t is = ap (λ found. option_map_or (λ t. first_failing (holds w p) (conjuncts t)) found (Some 0)) is

@@ -14,7 +14,8 @@ use Rattle.match_explain.proofs.FailingLemmas.{against-truths}
 
 module _ (moment : ℕ) (request ad : List Frame) (es : List (Bor Expr)) (gathered : map (λ (e : Bor Expr). tree e.now) es ≡ conjuncts_at request 0) where
   -- the truths are those of the request's conjuncts
-  pub truths-are : (w : PlainWorld) (at : AdPlace) (xs : List (Bor Expr)) (held : List Bool) → w ≡ docked_to moment request ad → at ≡ request_side w → xs ≡ es
+  pub truths-are : (w : PlainWorld) (at : AdPlace) (xs : List (Bor Expr)) (held : List Bool) → w ≡ docked_to moment request ad → at ≡ request_side w
+      → xs ≡ es
       → held ≡ map (λ (e : Bor Expr). holds w at (tree e.now)) xs → held ≡ map (holds_for moment request ad) (conjuncts_at request 0)
   truths-are w at xs held docked side same is =
       is
@@ -30,19 +31,23 @@ module _ (moment : ℕ) (request ad : List Frame) (held : List Bool) (are : held
   world = docked_to moment request ad
 
   -- what fails of the request
-  request-told : (found : Option ℕ) → found ≡ against (requirement_expr request 0) (first_failing (λ b. b) held) → found ≡ failing world (request_side world)
+  request-told : (found : Option ℕ) → found ≡ against (requirement_expr request 0) (first_failing (λ b. b) held)
+      → found ≡ failing world (request_side world)
   unfolding world
   request-told found is =
       is
       ∙ ap (λ (bs : List Bool). against (requirement_expr request 0) (first_failing (λ b. b) bs)) are
       ∙ sym (against-truths (docked_to moment request ad) (request_side (docked_to moment request ad)) (requirement_expr request 0) refl)
 
-  pub request-declines : (found : Option ℕ) (j : ℕ) → found ≡ against (requirement_expr request 0) (first_failing (λ b. b) held) → found ≡ Some j → Verdict.Request j ≡ verdict (docked_to moment request ad)
+  pub request-declines : (found : Option ℕ) (j : ℕ) → found ≡ against (requirement_expr request 0) (first_failing (λ b. b) held) → found ≡ Some j
+      → Verdict.Request j ≡ verdict (docked_to moment request ad)
   unfolding world
   request-declines found j is some =
-      ap (λ (o : Option ℕ). verdict_by o (failing (docked_to moment request ad) (resource_side (docked_to moment request ad)))) (sym some ∙ request-told found is)
+      ap (λ (o : Option ℕ). verdict_by o (failing (docked_to moment request ad) (resource_side (docked_to moment request ad))))
+      (sym some ∙ request-told found is)
 
   pub request-accepts : (found other : Option ℕ) → found ≡ against (requirement_expr request 0) (first_failing (λ b. b) held) → found ≡ None
-      → other ≡ failing (docked_to moment request ad) (resource_side (docked_to moment request ad)) → verdict_by None other ≡ verdict (docked_to moment request ad)
+      → other ≡ failing (docked_to moment request ad) (resource_side (docked_to moment request ad))
+      → verdict_by None other ≡ verdict (docked_to moment request ad)
   unfolding world
   request-accepts found other is none told = (λ k. verdict_by ((sym none ∙ request-told found is) k) (told k))

@@ -1,5 +1,6 @@
 -- An ad is accepted exactly where its dock is true. Each step is an equation of tests, so that it serves both directions.
-use Rattle.std.proofs.Common.{◌≡◌, ◌∙◌, ap, sym, refl, ℕ, suc, Bool, true, false, ◌&&◌, List, [], ◌∷◌, Option, None, Some, is_none, option_map, option_and_then, unwrap_or, cond}
+use Rattle.std.proofs.Common.{◌≡◌, ◌∙◌, ap, sym, refl, ℕ, suc, Bool, true, false, ◌&&◌, List, [], ◌∷◌, Option, None, Some, is_none}
+use Rattle.std.proofs.Common.{option_map, option_and_then, unwrap_or, cond}
 use Rattle.std.specs.List.{list_all}
 use Rattle.std.specs.Option.{option_map_or}
 use Rattle.std.proofs.lemmas.List.Folds.{list_all-append}
@@ -100,7 +101,8 @@ none-fails : {X : Type 0} (test : X → Bool) (xs : List X) → is_none (first_f
 none-fails test [] = refl
 none-fails {X} test (x ∷ xs) = by (test x) (none-fails test xs)
   where
-    by : (b : Bool) → is_none (first_failing test xs) ≡ list_all test xs → is_none (cond b (option_map suc (first_failing test xs)) (Some 1)) ≡ (b && list_all test xs)
+    by : (b : Bool) → is_none (first_failing test xs) ≡ list_all test xs
+        → is_none (cond b (option_map suc (first_failing test xs)) (Some 1)) ≡ (b && list_all test xs)
     by true behind = suc-fails (first_failing test xs) ∙ behind
     by false behind = refl
 
@@ -109,11 +111,13 @@ side-holds : (w : PlainWorld) (p : AdPlace) → is_none (failing w p) ≡ meets_
 unfolding value_at
 side-holds w p = by (requirement_of (frames_of_ad w p.ad) p.frame)
   where
-    told : (t : Option Tree) → is_none (option_map_or (λ t. first_failing (holds w p) (conjuncts t)) t (Some 0)) ≡ truth (option_and_then (value_by (value_at 23 w) w p) t)
+    told : (t : Option Tree)
+        → is_none (option_map_or (λ t. first_failing (holds w p) (conjuncts t)) t (Some 0)) ≡ truth (option_and_then (value_by (value_at 23 w) w p) t)
     told None = refl
     told (Some t) = none-fails (holds w p) (conjuncts t) ∙ sym (conjuncts-hold (value_at 23 w) w p t)
 
-    by : (k : Option ℕ) → is_none (option_map_or (λ t. first_failing (holds w p) (conjuncts t)) (option_and_then (λ k. expr_at (frames_of_ad w p.ad) p.frame k) k) (Some 0))
+    by : (k : Option ℕ)
+        → is_none (option_map_or (λ t. first_failing (holds w p) (conjuncts t)) (option_and_then (λ k. expr_at (frames_of_ad w p.ad) p.frame k) k) (Some 0))
         ≡ option_map_or (λ k. is_true (evaluation_at w (attribute_of p k))) k false
     by None = refl
     by (Some k) = told (expr_at (frames_of_ad w p.ad) p.frame k)

@@ -1,5 +1,7 @@
 -- The users of a spin, step by step, with their weights, and the resources that are free.
-use Rattle.std.proofs.Common.{◌≡◌, ◌≤◌, ◌<◌, ◌+◌, ◌^◌, ℕ, zero, suc, Bool, true, false, ◌&&◌, ◌||◌, cond, List, [], ◌∷◌, ◌++◌, count_by, filter, fold, get_or, length, map, slice_get, take, Some, refl, ap, sym, ◌∙◌, arith, Less, Equal, Greater}
+use Rattle.std.proofs.Common.{◌≡◌, ◌≤◌, ◌<◌, ◌+◌, ◌^◌, ℕ, zero, suc, Bool, true, false, ◌&&◌, ◌||◌, cond, List, [], ◌∷◌}
+use Rattle.std.proofs.Common.{◌++◌, count_by, filter, fold, get_or, length, map, slice_get, take, Some, refl, ap, sym, ◌∙◌, arith, Less, Equal}
+use Rattle.std.proofs.Common.{Greater}
 use Rattle.std.specs.BTreeSet.{insert_key}
 use Rattle.std.specs.List.{list_any}
 use Rattle.std.specs.Option.{option_map_or}
@@ -13,13 +15,12 @@ use Rattle.ad_store.specs.Stock.{Stock}
 use Rattle.claim_table.specs.declared.job.Job.{Job}
 use Rattle.negotiator.specs.declared.queues.Queue.{Queue}
 use Rattle.negotiator.specs.Budget.{is_idle_at}
-use Rattle.negotiator.specs.Cycle.{Market, Waiting, all_users, is_of, places, user_order, users_of, waits}
+use Rattle.negotiator.specs.Cycle.{Market, Waiting, all_users, is_of, places, users_of, waits}
 use Rattle.negotiator.specs.Markets.{is_free, market_of}
-use Rattle.claim_table.specs.Priorities.{Setting, priority_of}
+use Rattle.claim_table.specs.Priorities.{Setting, priority_of, user_order}
 use Rattle.negotiator.specs.Queues.{AreQueues}
 use Rattle.negotiator.specs.Scenes.{users_at}
 use Rattle.negotiator.proofs.AlikeLemmas.{any-same}
-use Rattle.negotiator.proofs.CycleLemmas.{any-append}
 use Rattle.negotiator.proofs.ShiftLemmas.{waiting-is}
 use Rattle.pie_slices.specs.Slices.{weight_of}
 
@@ -37,14 +38,17 @@ insert-length : (R : List ℕ → List ℕ → Ordering) (ks : List (List ℕ)) 
 insert-length R [] k = omega arith
 insert-length R (x ∷ ks) k = by (R k x) (insert-length R ks k)
   where
-    by : (r : Ordering) → length (insert_key R ks k) ≤ length ks + 1 → length (match_ordering r (k ∷ x ∷ ks) (x ∷ ks) (x ∷ insert_key R ks k)) ≤ length (x ∷ ks) + 1
+    by : (r : Ordering) → length (insert_key R ks k) ≤ length ks + 1
+        → length (match_ordering r (k ∷ x ∷ ks) (x ∷ ks) (x ∷ insert_key R ks k)) ≤ length (x ∷ ks) + 1
     by Less rest = omega arith
     by Equal rest = omega arith
     by Greater rest = omega (arith, rest)
 
-users-length : (R : List ℕ → List ℕ → Ordering) (us : List (List ℕ)) (jobs : List Waiting) → length (fold (λ us (job : Waiting). insert_key R us job.user) us jobs) ≤ length us + length jobs
+users-length : (R : List ℕ → List ℕ → Ordering) (us : List (List ℕ)) (jobs : List Waiting)
+    → length (fold (λ us (job : Waiting). insert_key R us job.user) us jobs) ≤ length us + length jobs
 users-length R us [] = omega arith
-users-length R us (job ∷ jobs) = let one = insert-length R us job.user in let rest = users-length R (insert_key R us job.user) jobs in omega (arith, one, rest)
+users-length R us (job ∷ jobs) =
+    let one = insert-length R us job.user in let rest = users-length R (insert_key R us job.user) jobs in omega (arith, one, rest)
 
 filter-length : {A : Type 0} (p : A → Bool) (xs : List A) → length (filter p xs) ≤ length xs
 filter-length p [] = omega arith
@@ -63,22 +67,27 @@ few-users market =
 -- ---- users by their queues
 
 -- the user of a queue by its number
-pub read-user : (queues : List Queue) (j : ℕ) (queue : Queue) → j < length queues → get_or queues j queue ≡ queue → option_map_or (λ (q : Queue). q.user) (slice_get queues j) [] ≡ queue.user
+pub read-user : (queues : List Queue) (j : ℕ) (queue : Queue) → j < length queues → get_or queues j queue ≡ queue
+    → option_map_or (λ (q : Queue). q.user) (slice_get queues j) [] ≡ queue.user
 read-user [] j queue within is = absurd (omega (arith, within))
 read-user (q ∷ qs) zero queue within is = ap (λ (q : Queue). q.user) is
 read-user (q ∷ qs) (suc j) queue within is = read-user qs j queue (omega (arith, within)) is
 
-pub user-here : (queues : List Queue) (active : List ℕ) (k j : ℕ) (queue : Queue) → k < length active → get_or active k 0 ≡ j → j < length queues → get_or queues j queue ≡ queue → get_or (users_at queues active) k [] ≡ queue.user
+pub user-here : (queues : List Queue) (active : List ℕ) (k j : ℕ) (queue : Queue) → k < length active → get_or active k 0 ≡ j → j < length queues
+    → get_or queues j queue ≡ queue → get_or (users_at queues active) k [] ≡ queue.user
 user-here queues [] k j queue within here inside is = absurd (omega (arith, within))
-user-here queues (a ∷ more) zero j queue within here inside is = ap (λ a. option_map_or (λ (q : Queue). q.user) (slice_get queues a) []) here ∙ read-user queues j queue inside is
+user-here queues (a ∷ more) zero j queue within here inside is =
+    ap (λ a. option_map_or (λ (q : Queue). q.user) (slice_get queues a) []) here ∙ read-user queues j queue inside is
 user-here queues (a ∷ more) (suc k) j queue within here inside is = user-here queues more k j queue (omega (arith, within)) here inside is
 
 module _ (settings : List Setting) (queues : List Queue) (active : List ℕ) where
   abbrev weigh : List ℕ → ℕ
   weigh user = weight_of (priority_of user settings)
 
-  pub weights-more : (i k number w : ℕ) (queue : Queue) (weights later : List ℕ) → i < length active → get_or active i 0 ≡ k → k < length queues → queue ≡ get_or queues k queue
-      → number ≡ priority_of queue.user settings → w ≡ weight_of number → weights ≡ map weigh (users_at queues (take i active)) → later ≡ weights ++ w ∷ []
+  pub weights-more : (i k number w : ℕ) (queue : Queue) (weights later : List ℕ) → i < length active → get_or active i 0 ≡ k → k < length queues
+      → queue ≡ get_or queues k queue
+      → number ≡ priority_of queue.user settings → w ≡ weight_of number → weights ≡ map weigh (users_at queues (take i active))
+      → later ≡ weights ++ w ∷ []
       → later ≡ map weigh (users_at queues (take (i + 1) active))
   weights-more i k number w queue weights later within here inside is number_is w_is so_far pushed =
       let before = users_at queues (take i active) in
@@ -96,7 +105,8 @@ any-filter : {A : Type 0} (p q : A → Bool) (xs : List A) → list_any p (filte
 any-filter p q [] = refl
 any-filter p q (x ∷ xs) = by (q x) (any-filter p q xs)
   where
-    by : (b : Bool) → list_any p (filter q xs) ≡ list_any (λ x. q x && p x) xs → list_any p (cond b (x ∷ filter q xs) (filter q xs)) ≡ (b && p x) || list_any (λ x. q x && p x) xs
+    by : (b : Bool) → list_any p (filter q xs) ≡ list_any (λ x. q x && p x) xs
+        → list_any p (cond b (x ∷ filter q xs) (filter q xs)) ≡ (b && p x) || list_any (λ x. q x && p x) xs
     by true rest = ap (λ b. p x || b) rest
     by false rest = rest
 
@@ -111,7 +121,8 @@ module _ (moment : ℕ) (stock : Stock) (settings : List Setting) (jobs : List J
       by true = refl
       by false = refl
 
-  pub any-own : (user : List ℕ) (own : List ℕ) → own ≡ filter (is_of market user) (places market.jobs) → list_any (is_idle_at jobs) own ≡ list_any (waits market user []) (places market.jobs)
+  pub any-own : (user : List ℕ) (own : List ℕ) → own ≡ filter (is_of market user) (places market.jobs)
+      → list_any (is_idle_at jobs) own ≡ list_any (waits market user []) (places market.jobs)
   any-own user own is =
       ap (list_any (is_idle_at jobs)) is
       ∙ any-filter (is_idle_at jobs) (is_of market user) (places market.jobs)
@@ -120,7 +131,8 @@ module _ (moment : ℕ) (stock : Stock) (settings : List Setting) (jobs : List J
   abbrev active : List ℕ → Bool
   active user = list_any (waits market user []) (places market.jobs)
 
-  users-push : (queues : List Queue) (ks : List ℕ) (k : ℕ) (d : Queue) → k < length queues → users_at queues (ks ++ k ∷ []) ≡ users_at queues ks ++ (get_or queues k d).user ∷ []
+  users-push : (queues : List Queue) (ks : List ℕ) (k : ℕ) (d : Queue) → k < length queues
+      → users_at queues (ks ++ k ∷ []) ≡ users_at queues ks ++ (get_or queues k d).user ∷ []
   users-push queues ks k d within =
       map-append (λ j. option_map_or (λ (q : Queue). q.user) (slice_get queues j) []) ks (k ∷ [])
       ∙ ap (λ u. users_at queues ks ++ u ∷ []) (at queues k within)
@@ -130,8 +142,10 @@ module _ (moment : ℕ) (stock : Stock) (settings : List Setting) (jobs : List J
       at (q ∷ qs) zero within = refl
       at (q ∷ qs) (suc k) within = at qs k (omega (arith, within))
 
-  module _ (queues : List Queue) (k : ℕ) (d : Queue) (within : k < length queues) (ks : List ℕ) (so_far : users_at queues ks ≡ filter active (map (λ (q : Queue). q.user) (take k queues))) where
-    next : (b : Bool) → active (get_or queues k d).user ≡ b → filter active (map (λ (q : Queue). q.user) (take (k + 1) queues)) ≡ users_at queues ks ++ cond b ((get_or queues k d).user ∷ []) []
+  module _ (queues : List Queue) (k : ℕ) (d : Queue) (within : k < length queues) (ks : List ℕ)
+      (so_far : users_at queues ks ≡ filter active (map (λ (q : Queue). q.user) (take k queues))) where
+    next : (b : Bool) → active (get_or queues k d).user ≡ b
+        → filter active (map (λ (q : Queue). q.user) (take (k + 1) queues)) ≡ users_at queues ks ++ cond b ((get_or queues k d).user ∷ []) []
     next b e =
         ap (λ l. filter active (map (λ (q : Queue). q.user) l)) (take_more queues k d within)
         ∙ ap (filter active) (map-append (λ (q : Queue). q.user) (take k queues) (get_or queues k d ∷ []))
@@ -139,30 +153,21 @@ module _ (moment : ℕ) (stock : Stock) (settings : List Setting) (jobs : List J
         ∙ ap (λ l. l ++ filter active ((get_or queues k d).user ∷ [])) (sym so_far)
         ∙ ap (λ c. users_at queues ks ++ cond c ((get_or queues k d).user ∷ []) []) e
 
-    active-more : (later : List ℕ) → later ≡ ks ++ k ∷ [] → active (get_or queues k d).user ≡ true → users_at queues later ≡ filter active (map (λ (q : Queue). q.user) (take (k + 1) queues))
+    pub active-more : (later : List ℕ) → later ≡ ks ++ k ∷ [] → active (get_or queues k d).user ≡ true
+        → users_at queues later ≡ filter active (map (λ (q : Queue). q.user) (take (k + 1) queues))
     active-more later pushed e = ap (users_at queues) pushed ∙ users-push queues ks k d within ∙ sym (next true e)
 
-    active-same : active (get_or queues k d).user ≡ false → users_at queues ks ≡ filter active (map (λ (q : Queue). q.user) (take (k + 1) queues))
+    pub active-same : active (get_or queues k d).user ≡ false → users_at queues ks ≡ filter active (map (λ (q : Queue). q.user) (take (k + 1) queues))
     active-same e = sym (next false e ∙ append-nil (users_at queues ks))
 
-  -- a queue, and what is told of its user
-  module _ (queues : List Queue) (k : ℕ) (queue : Queue) (within : k < length queues) (ks : List ℕ) (so_far : users_at queues ks ≡ filter active (map (λ (q : Queue). q.user) (take k queues)))
-      (is : queue ≡ get_or queues k queue) (told : Bool) (told_is : told ≡ active queue.user) where
-    here : active (get_or queues k queue).user ≡ told
-    here = ap (λ (q : Queue). active q.user) (sym is) ∙ sym told_is
-
-    pub active-yes : told ≡ true → (later : List ℕ) → later ≡ ks ++ k ∷ [] → users_at queues later ≡ filter active (map (λ (q : Queue). q.user) (take (k + 1) queues))
-    active-yes is_active later pushed = active-more queues k queue within ks so_far later pushed (here ∙ is_active)
-
-    pub active-no : told ≡ false → users_at queues ks ≡ filter active (map (λ (q : Queue). q.user) (take (k + 1) queues))
-    active-no is_idle = active-same queues k queue within ks so_far (here ∙ is_idle)
-
-  pub active-all : (queues : List Queue) (k : ℕ) (ks : List ℕ) → AreQueues market queues → length queues ≤ k → users_at queues ks ≡ filter active (map (λ (q : Queue). q.user) (take k queues)) → users_at queues ks ≡ users_of market []
-  active-all queues k ks are past so_far = so_far ∙ ap (λ l. filter active (map (λ (q : Queue). q.user) l)) (take_all k queues past) ∙ ap (filter active) are.users
+  pub active-all : (queues : List Queue) (k : ℕ) (ks : List ℕ) → AreQueues market queues → length queues ≤ k
+      → users_at queues ks ≡ filter active (map (λ (q : Queue). q.user) (take k queues)) → users_at queues ks ≡ users_of market []
+  active-all queues k ks are past so_far =
+      so_far ∙ ap (λ l. filter active (map (λ (q : Queue). q.user) l)) (take_all k queues past) ∙ ap (filter active) are.users
 
 -- ---- what is free
 
-read-at : (xs : List ℕ) (i x : ℕ) → slice_get xs i ≡ Some x → (i < length xs) × (get_or xs i 0 ≡ x)
+pub read-at : (xs : List ℕ) (i x : ℕ) → slice_get xs i ≡ Some x → (i < length xs) × (get_or xs i 0 ≡ x)
 read-at [] i x e = absurd (cc)
 read-at (y ∷ ys) zero x e = (omega arith, cc)
 read-at (y ∷ ys) (suc i) x e = let rest = read-at ys i x e in (omega (arith, rest.0), rest.1)
@@ -173,21 +178,3 @@ module _ (jobs : List Job) (slots : List ℕ) (i slot : ℕ) (at : slice_get slo
 
   pub free-none : is_free jobs slot ≡ false → count_by (is_free jobs) (take (i + 1) slots) ≡ count_by (is_free jobs) (take i slots)
   free-none e = let here = read-at slots i slot at in count_by_more_no (is_free jobs) slots i 0 here.0 (ap (is_free jobs) here.1 ∙ e)
-
--- ---- an element that passes
-
-pub any-at : (p : ℕ → Bool) (xs : List ℕ) (k : ℕ) → k < length xs → p (get_or xs k 0) ≡ true → list_any p xs ≡ true
-any-at p [] k within e = absurd (omega (arith, within))
-any-at p (x ∷ xs) zero within e = ap (λ b. b || list_any p xs) e
-any-at p (x ∷ xs) (suc k) within e = ap (λ b. p x || b) (any-at p xs k (omega (arith, within)) e) ∙ by (p x)
-  where
-    by : (b : Bool) → b || true ≡ true
-    by true = refl
-    by false = refl
-
-pub any-next : (p : ℕ → Bool) (xs : List ℕ) (k : ℕ) → k < length xs → list_any p (take k xs) ≡ false → p (get_or xs k 0) ≡ false → list_any p (take (k + 1) xs) ≡ false
-any-next p xs k within so_far e =
-    ap (list_any p) (take_more xs k 0 within)
-    ∙ any-append p (take k xs) (get_or xs k 0 ∷ [])
-    ∙ ap (λ b. b || (p (get_or xs k 0) || false)) so_far
-    ∙ ap (λ b. b || false) e

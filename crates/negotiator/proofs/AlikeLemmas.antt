@@ -1,5 +1,7 @@
 -- Two markets that are alike, but for the names of their resources and for offers made before: they have the same cycle.
-use Rattle.std.proofs.Common.{◌≡◌, ◌-◌, ◌==◌, ℕ, zero, suc, Bool, true, false, not, ◌&&◌, ◌||◌, nat_lt, cond, if◌then◌else◌, List, [], ◌∷◌, ◌++◌, filter, fold, length, map, count_by, slice_get, Option, None, Some, bytes_eq, refl, ap, sym, ◌∙◌, subst, arith, append_assoc}
+use Rattle.std.proofs.Common.{◌≡◌, ◌-◌, ◌==◌, ℕ, zero, suc, Bool, true, false, not, ◌&&◌, ◌||◌, nat_lt, cond, if◌then◌else◌, List}
+use Rattle.std.proofs.Common.{[], ◌∷◌, ◌++◌, filter, fold, length, map, count_by, slice_get, Option, None, Some, bytes_eq, refl, ap, sym, ◌∙◌}
+use Rattle.std.proofs.Common.{subst, arith, append_assoc}
 use Rattle.std.specs.Prelude.{option_map}
 use Rattle.std.specs.List.{list_any, range_with_len}
 use Rattle.std.specs.Option.{option_map_or}
@@ -9,12 +11,15 @@ use Rattle.std.specs.Ordering.{match_ordering, nat_cmp, ordering_then}
 use Rattle.std.proofs.lemmas.List.{append-nil, map-append}
 use Rattle.std.proofs.lemmas.List.Sums.{sum_by-cons}
 use Rattle.pie_slices.specs.Slices.{slices_of, weight_of}
-use Rattle.negotiator.specs.Cycle.{Market, Offer, PlainSpin, PlainTurn, Waiting, all_users, cycle_from, cycle_of, has_offer, is_empty, is_given, is_of, is_waiting, offers_in, places, shares_of, spin, spins_within, turn, turns, user_order, users_of, waiting_count, waits, wants_of}
+use Rattle.claim_table.specs.Priorities.{user_order}
+use Rattle.negotiator.specs.Cycle.{Market, Offer, PlainSpin, PlainTurn, Waiting, all_users, cycle_from, cycle_of, has_offer, is_empty, is_given, is_of}
+use Rattle.negotiator.specs.Cycle.{is_waiting, offers_in, places, shares_of, spin, spins_within, turn, turns, users_of, waiting_count, waits, wants_of}
 use Rattle.negotiator.specs.Mapped.{offer_mapped, spin_mapped, turn_mapped}
 use Rattle.negotiator.proofs.CycleLemmas.{from, offer, offers-kept}
 
 -- what is put in the place of each offer in n, where g says which offers stand in n for those made in m
-pub record IsAlike {R S : Type 0} (rename : R → S) (m : Market R) (n : Market S) (g : List (Offer R) → List (Offer S)) (P : List (Offer R) → Type 0) : Type 0 where
+pub record IsAlike {R S : Type 0} (rename : R → S) (m : Market R) (n : Market S) (g : List (Offer R) → List (Offer S))
+    (P : List (Offer R) → Type 0) : Type 0 where
   pub ahead : (made : List (Offer R)) (o : Offer R) → g (made ++ o ∷ []) ≡ g made ++ offer_mapped rename o ∷ []
   pub size : length n.jobs ≡ length m.jobs
   pub of : (user : List ℕ) (i : ℕ) → is_of n user i ≡ is_of m user i
@@ -24,7 +29,8 @@ pub record IsAlike {R S : Type 0} (rename : R → S) (m : Market R) (n : Market 
   pub priority : (user : List ℕ) → n.priority user ≡ m.priority user
   pub free : (made : List (Offer R)) → P made → n.free (g made) ≡ m.free made
   pub find : (made : List (Offer R)) (i : ℕ) → P made → n.find (g made) i ≡ option_map (map rename) (m.find made i)
-  pub step : (user : List ℕ) (made : List (Offer R)) (i : ℕ) (rs : List R) → P made → waits m user made i ≡ true → m.find made i ≡ Some rs → P (made ++ offer i rs ∷ [])
+  pub step : (user : List ℕ) (made : List (Offer R)) (i : ℕ) (rs : List R) → P made → waits m user made i ≡ true → m.find made i ≡ Some rs
+      → P (made ++ offer i rs ∷ [])
 
 pub filter-same : {A : Type 0} (p q : A → Bool) → ((x : A) → p x ≡ q x) → (xs : List A) → filter p xs ≡ filter q xs
 filter-same p q each [] = refl
@@ -42,7 +48,8 @@ fold-same : {A B : Type 0} (f g : B → A → B) → ((b : B) (x : A) → f b x 
 fold-same f g each b [] = refl
 fold-same f g each b (x ∷ xs) = ap (λ c. fold f c xs) (each b x) ∙ fold-same f g each (g b x) xs
 
-module _ {R S : Type 0} (rename : R → S) (m : Market R) (n : Market S) (g : List (Offer R) → List (Offer S)) (P : List (Offer R) → Type 0) (alike : IsAlike rename m n g P) where
+module _ {R S : Type 0} (rename : R → S) (m : Market R) (n : Market S) (g : List (Offer R) → List (Offer S)) (P : List (Offer R) → Type 0)
+    (alike : IsAlike rename m n g P) where
   abbrev renamed : List (Offer R) → List (Offer S)
   renamed os = map (offer_mapped rename) os
 
@@ -70,7 +77,9 @@ module _ {R S : Type 0} (rename : R → S) (m : Market R) (n : Market S) (g : Li
   module _ (user : List ℕ) (i : ℕ) (is : List ℕ) (left : ℕ) (given : Bool) (made : List (Offer R)) (p : P made) where
     from-alike : (w e : Bool) (f : Option (List R)) → waits m user made i ≡ w → m.find made i ≡ f
         → TurnAlike made (turn m user is left given made) (turn n user is left given (g made))
-        → ((rs : List R) → P (made ++ offer i rs ∷ []) → TurnAlike (made ++ offer i rs ∷ []) (turn m user is (left - wants_of m i) true (made ++ offer i rs ∷ [])) (turn n user is (left - wants_of m i) true (g (made ++ offer i rs ∷ []))))
+        → ((rs : List R) → P (made ++ offer i rs ∷ [])
+        → TurnAlike (made ++ offer i rs ∷ []) (turn m user is (left - wants_of m i) true (made ++ offer i rs ∷ []))
+        (turn n user is (left - wants_of m i) true (g (made ++ offer i rs ∷ []))))
         → TurnAlike made (from m user i is left given made w e f) (from n user i is left given (g made) w e (option_map (map rename) f))
     from-alike false e f waits_is find_is on after = on
     from-alike true true f waits_is find_is on after = kept-none made p
@@ -92,7 +101,8 @@ module _ {R S : Type 0} (rename : R → S) (m : Market R) (n : Market S) (g : Li
         ∙ ap (λ k. from n user i is left given (g made) (waits m user made i) (given && nat_lt left k) (n.find (g made) i)) (alike.wants i)
         ∙ ap (from n user i is left given (g made) (waits m user made i) (given && nat_lt left (wants_of m i))) (alike.find made i p)
 
-  pub turn-alike : (user : List ℕ) (is : List ℕ) (left : ℕ) (given : Bool) (made : List (Offer R)) → P made → TurnAlike made (turn m user is left given made) (turn n user is left given (g made))
+  pub turn-alike : (user : List ℕ) (is : List ℕ) (left : ℕ) (given : Bool) (made : List (Offer R)) → P made
+      → TurnAlike made (turn m user is left given made) (turn n user is left given (g made))
   turn-alike user [] left given made p = kept-none made p
   turn-alike user (i ∷ is) left given made p =
       let here = from-alike user i is left given made p (waits m user made i) (given && nat_lt left (wants_of m i)) (m.find made i) refl refl
@@ -114,7 +124,8 @@ module _ {R S : Type 0} (rename : R → S) (m : Market R) (n : Market S) (g : Li
   no-turns : (made : List (Offer R)) → P made → TurnsAlike made [] []
   no-turns made p = record { same = refl; kept = subst P (sym (append-nil made)) p }
 
-  turns-alike : (users : List (List ℕ)) (slices : List ℕ) (made : List (Offer R)) → P made → TurnsAlike made (turns m users slices made) (turns n users slices (g made))
+  turns-alike : (users : List (List ℕ)) (slices : List ℕ) (made : List (Offer R)) → P made
+      → TurnsAlike made (turns m users slices made) (turns n users slices (g made))
   turns-alike [] slices made p = no-turns made p
   turns-alike (user ∷ users) [] made p = no-turns made p
   turns-alike (user ∷ users) (slice ∷ slices) made p =
@@ -125,7 +136,8 @@ module _ {R S : Type 0} (rename : R → S) (m : Market R) (n : Market S) (g : Li
       record {
         same =
             ap (λ l. let t : PlainTurn S = record { user = user; slice = slice; offers = l } in t ∷ turns n users slices (g made ++ l)) here
-            ∙ ap (λ l. let t : PlainTurn S = record { user = user; slice = slice; offers = renamed os } in t ∷ turns n users slices l) (sym (ahead-all os made))
+            ∙ ap (λ l. let t : PlainTurn S = record { user = user; slice = slice; offers = renamed os } in t ∷ turns n users slices l)
+            (sym (ahead-all os made))
             ∙ ap (λ l. let t : PlainTurn S = record { user = user; slice = slice; offers = renamed os } in t ∷ l) rest.same;
         kept = subst P (append_assoc made os (offers_in (turns m users slices (made ++ os)))) rest.kept;
       }
@@ -134,14 +146,16 @@ module _ {R S : Type 0} (rename : R → S) (m : Market R) (n : Market S) (g : Li
   users-same made =
       ap (filter (λ user. list_any (waits n user (g made)) (places n.jobs))) alike.users
       ∙ filter-same (λ user. list_any (waits n user (g made)) (places n.jobs)) (λ user. list_any (waits m user made) (places m.jobs))
-      (λ user. ap (list_any (waits n user (g made))) places-same ∙ any-same (waits n user (g made)) (waits m user made) (waits-same user made) (places m.jobs))
+      (λ user. ap (list_any (waits n user (g made))) places-same
+      ∙ any-same (waits n user (g made)) (waits m user made) (waits-same user made) (places m.jobs))
       (all_users m)
 
   shares-same : (made : List (Offer R)) → P made → shares_of n (g made) ≡ shares_of m made
   shares-same made p =
       ap (λ free. slices_of free (map (λ user. weight_of (n.priority user)) (users_of n (g made)))) (alike.free made p)
       ∙ ap (λ us. slices_of (m.free made) (map (λ user. weight_of (n.priority user)) us)) (users-same made)
-      ∙ ap (slices_of (m.free made)) (map-same (λ user. weight_of (n.priority user)) (λ user. weight_of (m.priority user)) (λ user. ap weight_of (alike.priority user)) (users_of m made))
+      ∙ ap (slices_of (m.free made)) (map-same (λ user. weight_of (n.priority user)) (λ user. weight_of (m.priority user))
+      (λ user. ap weight_of (alike.priority user)) (users_of m made))
 
   empty-renamed : (os : List (Offer R)) → is_empty (renamed os) ≡ is_empty os
   empty-renamed [] = refl
@@ -154,7 +168,8 @@ module _ {R S : Type 0} (rename : R → S) (m : Market R) (n : Market S) (g : Li
       ∙ by (not (is_empty t.offers)) (kept-renamed ts)
     where
       by : (b : Bool) → filter has_offer (renamed_turns ts) ≡ renamed_turns (filter has_offer ts)
-          → cond b (turn_mapped rename t ∷ filter has_offer (renamed_turns ts)) (filter has_offer (renamed_turns ts)) ≡ renamed_turns (cond b (t ∷ filter has_offer ts) (filter has_offer ts))
+          → cond b (turn_mapped rename t ∷ filter has_offer (renamed_turns ts)) (filter has_offer (renamed_turns ts))
+          ≡ renamed_turns (cond b (t ∷ filter has_offer ts) (filter has_offer ts))
       by true rest = ap (λ l. turn_mapped rename t ∷ l) rest
       by false rest = rest
 
@@ -176,7 +191,8 @@ module _ {R S : Type 0} (rename : R → S) (m : Market R) (n : Market S) (g : Li
       ∙ all.same in
       record {
         same =
-            ap (λ f. let s : PlainSpin S = record { free = f; turns = filter has_offer (turns n (users_of n (g made)) (shares_of n (g made)) (g made)) } in s) (alike.free made p)
+            ap (λ f. let s : PlainSpin S = record { free = f; turns = filter has_offer (turns n (users_of n (g made)) (shares_of n (g made)) (g made)) } in s)
+            (alike.free made p)
             ∙ ap (λ l. let s : PlainSpin S = record { free = m.free made; turns = l } in s) (ap (filter has_offer) there ∙ kept-renamed ts);
         kept = subst (λ os. P (made ++ os)) (sym (offers-kept ts)) all.kept;
       }
@@ -197,13 +213,17 @@ module _ {R S : Type 0} (rename : R → S) (m : Market R) (n : Market S) (g : Li
       let os = offers_in (spin m made).turns in
       let rest = spins-alike k (made ++ os) here.kept in
       ap (λ (s : PlainSpin S). s ∷ (if is_empty s.turns then [] else spins_within n k (g made ++ offers_in s.turns))) here.same
-      ∙ ap (λ b. spin_mapped rename (spin m made) ∷ (if b then [] else spins_within n k (g made ++ offers_in (renamed_turns (spin m made).turns)))) (empty-turns (spin m made).turns)
-      ∙ ap (λ l. spin_mapped rename (spin m made) ∷ (if is_empty (spin m made).turns then [] else spins_within n k (g made ++ l))) (offers-renamed (spin m made).turns)
+      ∙ ap (λ b. spin_mapped rename (spin m made) ∷ (if b then [] else spins_within n k (g made ++ offers_in (renamed_turns (spin m made).turns))))
+      (empty-turns (spin m made).turns)
+      ∙ ap (λ l. spin_mapped rename (spin m made) ∷ (if is_empty (spin m made).turns then [] else spins_within n k (g made ++ l)))
+      (offers-renamed (spin m made).turns)
       ∙ ap (λ l. spin_mapped rename (spin m made) ∷ (if is_empty (spin m made).turns then [] else spins_within n k l)) (sym (ahead-all os made))
       ∙ by (is_empty (spin m made).turns) rest
     where
-      by : (b : Bool) → spins_within n k (g (made ++ offers_in (spin m made).turns)) ≡ renamed_spins (spins_within m k (made ++ offers_in (spin m made).turns))
-          → (spin_mapped rename (spin m made) ∷ (if b then [] else spins_within n k (g (made ++ offers_in (spin m made).turns)))) ≡ renamed_spins (spin m made ∷ (if b then [] else spins_within m k (made ++ offers_in (spin m made).turns)))
+      by : (b : Bool)
+          → spins_within n k (g (made ++ offers_in (spin m made).turns)) ≡ renamed_spins (spins_within m k (made ++ offers_in (spin m made).turns))
+          → (spin_mapped rename (spin m made) ∷ (if b then [] else spins_within n k (g (made ++ offers_in (spin m made).turns))))
+          ≡ renamed_spins (spin m made ∷ (if b then [] else spins_within m k (made ++ offers_in (spin m made).turns)))
       by true rest = refl
       by false rest = ap (λ l. spin_mapped rename (spin m made) ∷ l) rest
 
@@ -222,14 +242,17 @@ module _ {R S : Type 0} (rename : R → S) (m : Market R) (n : Market S) (g : Li
 
 -- ---- other names alone
 
-insert-same : (p q : List ℕ → ℕ) → ((user : List ℕ) → p user ≡ q user) → (users : List (List ℕ)) (user : List ℕ) → insert_key (user_order p) users user ≡ insert_key (user_order q) users user
+insert-same : (p q : List ℕ → ℕ) → ((user : List ℕ) → p user ≡ q user) → (users : List (List ℕ)) (user : List ℕ)
+    → insert_key (user_order p) users user ≡ insert_key (user_order q) users user
 insert-same p q each [] user = refl
 insert-same p q each (other ∷ users) user =
     ap (λ r. match_ordering r (user ∷ other ∷ users) (other ∷ users) (other ∷ insert_key (user_order p) users user)) order
     ∙ ap (λ l. match_ordering (user_order q user other) (user ∷ other ∷ users) (other ∷ users) (other ∷ l)) (insert-same p q each users user)
   where
     order : user_order p user other ≡ user_order q user other
-    order = ap (λ a. ordering_then (nat_cmp a (p other)) (slice_cmp nat_cmp user other)) (each user) ∙ ap (λ b. ordering_then (nat_cmp (q user) b) (slice_cmp nat_cmp user other)) (each other)
+    order =
+        ap (λ a. ordering_then (nat_cmp a (p other)) (slice_cmp nat_cmp user other)) (each user)
+        ∙ ap (λ b. ordering_then (nat_cmp (q user) b) (slice_cmp nat_cmp user other)) (each other)
 
 -- one market with other names for the resources of another
 pub record IsRenamed {R S : Type 0} (rename : R → S) (m : Market R) (n : Market S) (P : List (Offer R) → Type 0) : Type 0 where
@@ -238,7 +261,8 @@ pub record IsRenamed {R S : Type 0} (rename : R → S) (m : Market R) (n : Marke
   pub start : P []
   pub free : (made : List (Offer R)) → P made → n.free (map (offer_mapped rename) made) ≡ m.free made
   pub find : (made : List (Offer R)) (i : ℕ) → P made → n.find (map (offer_mapped rename) made) i ≡ option_map (map rename) (m.find made i)
-  pub step : (user : List ℕ) (made : List (Offer R)) (i : ℕ) (rs : List R) → P made → waits m user made i ≡ true → m.find made i ≡ Some rs → P (made ++ offer i rs ∷ [])
+  pub step : (user : List ℕ) (made : List (Offer R)) (i : ℕ) (rs : List R) → P made → waits m user made i ≡ true → m.find made i ≡ Some rs
+      → P (made ++ offer i rs ∷ [])
 
 module _ {R S : Type 0} (rename : R → S) (m : Market R) (n : Market S) (P : List (Offer R) → Type 0) (renames : IsRenamed rename m n P) where
   given-same : (made : List (Offer R)) (i : ℕ) → is_given (map (offer_mapped rename) made) i ≡ is_given made i
@@ -256,7 +280,8 @@ module _ {R S : Type 0} (rename : R → S) (m : Market R) (n : Market S) (P : Li
     wants = λ i. ap (λ jobs. option_map_or (λ (job : Waiting). job.wants) (slice_get jobs i) 0) renames.jobs;
     users =
         ap (λ jobs. fold (λ users (job : Waiting). insert_key (user_order n.priority) users job.user) [] jobs) renames.jobs
-        ∙ fold-same (λ users (job : Waiting). insert_key (user_order n.priority) users job.user) (λ users (job : Waiting). insert_key (user_order m.priority) users job.user)
+        ∙ fold-same (λ users (job : Waiting). insert_key (user_order n.priority) users job.user)
+        (λ users (job : Waiting). insert_key (user_order m.priority) users job.user)
         (λ users job. insert-same n.priority m.priority renames.priority users job.user) [] m.jobs;
     priority = renames.priority;
     free = renames.free;

@@ -1,5 +1,6 @@
 -- What is known of classes: the first resource that isn't offered is best, and stays so through an offer.
-use Rattle.std.proofs.Common.{◌≡◌, ◌<◌, ◌≤◌, ◌+◌, ℕ, zero, suc, Bool, true, false, not, cond, All, List, [], ◌∷◌, ◌++◌, length, get_or, set, slice_get, take, Option, None, Some, is_some, refl, ap, sym, ◌∙◌, subst, arith}
+use Rattle.std.proofs.Common.{◌≡◌, ◌<◌, ◌≤◌, ◌+◌, ◌-◌, ◌^◌, ℕ, zero, suc, Bool, true, false, not, cond, All, List, [], ◌∷◌}
+use Rattle.std.proofs.Common.{◌++◌, length, get_or, set, slice_get, take, Option, None, Some, is_some, refl, ap, sym, ◌∙◌, subst, arith}
 use Rattle.std.specs.Prelude.{IfSome, option_map}
 use Rattle.std.proofs.Math.Path.{fun_ext}
 use Rattle.std.proofs.lemmas.List.{take_all}
@@ -17,23 +18,24 @@ use Rattle.claim_table.specs.declared.job.Stage.{Stage}
 use Rattle.claim_table.specs.Holders.{holder_of}
 use Rattle.claim_table.specs.Jobs.{offered_to, with_standing}
 use Rattle.claim_table.specs.Priorities.{Setting}
-use Rattle.job_classes.specs.declared.reach.Reach.{Reach}
-use Rattle.job_classes.specs.Shown.{HasReadAds, ads_in}
-use Rattle.job_classes.specs.Twins.{AreAllMarked, AreTwins}
+use Rattle.significant_attrs.specs.declared.reach.Reach.{Reach}
+use Rattle.significant_attrs.specs.Shown.{HasReadAds, ads_in}
+use Rattle.significant_attrs.specs.Twins.{AreAllMarked, AreTwins}
 use Rattle.negotiator.specs.declared.class.Class.{Class}
 use Rattle.negotiator.specs.declared.class.Ranked.{Ranked}
 use Rattle.negotiator.specs.declared.clusters.Clusters.{Clusters}
 use Rattle.negotiator.specs.declared.scene.Scene.{Scene}
 use Rattle.negotiator.specs.Budget.{is_idle_at}
 use Rattle.negotiator.specs.Clusters.{AreClusters, IsClass, IsRanked, is_offered}
-use Rattle.negotiator.specs.Markets.{pool_for}
+use Rattle.negotiator.specs.Markets.{free_among, pool_for}
 use Rattle.negotiator.specs.Scenes.{settings_in, stock_in}
 use Rattle.negotiator.proofs.JobLemmas.{holder-later, offered-later}
 
 -- ---- the first that isn't offered
 
 module _ (offered : ℕ → Bool) where
-  pub first-past : (slots : List ℕ) (k : ℕ) → All (λ slot. offered slot ≡ true) (take k slots) → k < length slots → offered (get_or slots k 0) ≡ false → slice_get slots k ≡ first_left offered slots
+  pub first-past : (slots : List ℕ) (k : ℕ) → All (λ slot. offered slot ≡ true) (take k slots) → k < length slots
+      → offered (get_or slots k 0) ≡ false → slice_get slots k ≡ first_left offered slots
   first-past [] k past within free = absurd (omega (arith, within))
   first-past (s ∷ ss) zero past within free = sym (ap (λ b. cond (not b) (Some s) (first_left offered ss)) free)
   first-past (s ∷ ss) (suc k) past within free =
@@ -46,17 +48,20 @@ module _ (offered : ℕ → Bool) where
       none-first ss (All-tail (λ slot. offered slot ≡ true) s ss all)
       ∙ sym (ap (λ b. cond (not b) (Some s) (first_left offered ss)) (All-head (λ slot. offered slot ≡ true) s ss all))
 
-  pub none-left : (slots : List ℕ) (k : ℕ) → All (λ slot. offered slot ≡ true) (take k slots) → length slots ≤ k → slice_get slots (length slots) ≡ first_left offered slots
+  pub none-left : (slots : List ℕ) (k : ℕ) → All (λ slot. offered slot ≡ true) (take k slots) → length slots ≤ k
+      → slice_get slots (length slots) ≡ first_left offered slots
   none-left slots k past end = none-first slots (subst (All (λ slot. offered slot ≡ true)) (take_all k slots end) past)
 
-  pub all-past : (slots : List ℕ) (k n : ℕ) → All (λ slot. offered slot ≡ true) (take k slots) → length slots ≤ k → length slots ≤ n → All (λ slot. offered slot ≡ true) (take n slots)
+  pub all-past : (slots : List ℕ) (k n : ℕ) → All (λ slot. offered slot ≡ true) (take k slots) → length slots ≤ k → length slots ≤ n
+      → All (λ slot. offered slot ≡ true) (take n slots)
   all-past slots k n past end long = subst (All (λ slot. offered slot ≡ true)) (take_all k slots end ∙ sym (take_all n slots long)) past
 
   first-free : (slots : List ℕ) → IfSome (first_left offered slots) (λ slot. offered slot ≡ false)
   first-free [] = tt
   first-free (s ∷ ss) = by (offered s) refl (first-free ss)
     where
-      by : (b : Bool) → offered s ≡ b → IfSome (first_left offered ss) (λ slot. offered slot ≡ false) → IfSome (cond (not b) (Some s) (first_left offered ss)) (λ slot. offered slot ≡ false)
+      by : (b : Bool) → offered s ≡ b → IfSome (first_left offered ss) (λ slot. offered slot ≡ false)
+          → IfSome (cond (not b) (Some s) (first_left offered ss)) (λ slot. offered slot ≡ false)
       by true e rest = rest
       by false e rest = e
 
@@ -65,7 +70,8 @@ module _ (offered : ℕ → Bool) where
 
 -- ---- whether a slot is offered
 
-pub is-taken : (jobs : List Job) (slot : ℕ) (o : Option ℕ) (none b : Bool) → o ≡ offered_to slot jobs → is_some o ≡ not none → none ≡ b → is_offered jobs slot ≡ not b
+pub is-taken : (jobs : List Job) (slot : ℕ) (o : Option ℕ) (none b : Bool) → o ≡ offered_to slot jobs → is_some o ≡ not none → none ≡ b
+    → is_offered jobs slot ≡ not b
 is-taken jobs slot o none b is shown same = ap is_some (sym is) ∙ shown ∙ ap not same
 
 -- ---- lists of resources
@@ -75,21 +81,26 @@ module _ (moment : ℕ) (stock : Stock) (settings : List Setting) (jobs : List J
   abbrev pub pool_with : (ℕ → Bool) → Pool
   pool_with more = pool_of moment stock more (holder_of settings jobs)
 
-  pub ranked-first : (request : List Frame) (number : ℕ) (slots : List ℕ) → IsShortlist moment stock (is_offered jobs) (holder_of settings jobs) request number slots → IsRanked moment stock settings jobs request number (record { slots = slots; passed = 0 })
+  pub ranked-first : (request : List Frame) (number : ℕ) (slots : List ℕ)
+      → IsShortlist moment stock (is_offered jobs) (holder_of settings jobs) request number slots
+      → IsRanked moment stock settings jobs request number (record { slots = slots; passed = 0 })
   ranked-first request number slots list = record { list = list; passed = All-nil (λ slot. is_offered jobs slot ≡ true) }
 
   module _ (request : List Frame) (number : ℕ) (ranked : Ranked) (is : IsRanked moment stock settings jobs request number ranked) where
-    pub ranked-best : (slot : Option ℕ) → slot ≡ first_left (is_offered jobs) ranked.slots → slot ≡ best_slot stock (pool_for moment stock settings jobs) request number
+    pub ranked-best : (slot : Option ℕ) → slot ≡ first_left (is_offered jobs) ranked.slots
+        → slot ≡ best_slot stock (pool_for moment stock settings jobs) request number
     ranked-best slot first = first ∙ sym (is.list (is_offered jobs) (λ s e. e))
 
-    pub ranked-further : (after : Ranked) → after.slots ≡ ranked.slots → All (λ slot. is_offered jobs slot ≡ true) (take after.passed after.slots) → IsRanked moment stock settings jobs request number after
+    pub ranked-further : (after : Ranked) → after.slots ≡ ranked.slots → All (λ slot. is_offered jobs slot ≡ true) (take after.passed after.slots)
+        → IsRanked moment stock settings jobs request number after
     ranked-further after same passed = record {
       list = subst (λ (slots : List ℕ). IsShortlist moment stock (is_offered jobs) (holder_of settings jobs) request number slots) (sym same) is.list;
       passed = passed;
     }
 
     -- a list for a request is one for another with the same best members
-    pub ranked-along : (other : List Frame) → ((more : ℕ → Bool) → best (pool_with more) other number ≡ best (pool_with more) request number) → IsRanked moment stock settings jobs other number ranked
+    pub ranked-along : (other : List Frame) → ((more : ℕ → Bool) → best (pool_with more) other number ≡ best (pool_with more) request number)
+        → IsRanked moment stock settings jobs other number ranked
     ranked-along other same = record {
       list = λ more grows. ap (option_map (λ m. slot_at stock m.place)) (same more) ∙ is.list more grows;
       passed = is.passed;
@@ -117,37 +128,49 @@ module _ (moment : ℕ) (stock : Stock) (settings : List Setting) (jobs : List J
       subst (λ (o : Option Ranked). IfSome o (IsRanked moment stock settings jobs (ad_frames class.ad) class.number)) some is.ranked
 
   pub class-ranked : (class : Class) (list : Option Ranked) → IsClass moment stock settings jobs class
-      → IfSome list (IsRanked moment stock settings jobs (ad_frames class.ad) class.number) → IsClass moment stock settings jobs (record class { ranked = list })
+      → IfSome list (IsRanked moment stock settings jobs (ad_frames class.ad) class.number)
+      → IsClass moment stock settings jobs (record class { ranked = list })
   class-ranked class list is ranked = record { marked = is.marked; ranked = ranked }
 
   pub no-clusters : (clusters : Clusters) → clusters.reach ≡ None → clusters.classes.items ≡ [] → AreKnown moment stock.ads clusters.known
-      → AreClusters moment stock settings jobs clusters
-  no-clusters clusters reach classes known = record {
+      → clusters.free ≡ free_among stock jobs → clusters.free ≤ 10 ^ 4 → AreClusters moment stock settings jobs clusters
+  no-clusters clusters reach classes known free few = record {
     reach = subst (λ (o : Option Reach). IfSome o (λ r. HasReadAds r stock.ads)) (sym reach) tt;
     classes = subst (All (IsClass moment stock settings jobs)) (sym classes) (All-nil (IsClass moment stock settings jobs));
     known = known;
+    free = free;
+    few = few;
   }
 
   module _ (clusters : Clusters) (are : AreClusters moment stock settings jobs clusters) where
-    pub one-changed : (after : Clusters) (k : ℕ) (class : Class) → after.reach ≡ clusters.reach → after.classes.items ≡ set clusters.classes.items k class
-        → AreKnown moment stock.ads after.known → IsClass moment stock settings jobs class → AreClusters moment stock settings jobs after
-    one-changed after k class reach classes known is = record {
+    pub one-changed : (after : Clusters) (k : ℕ) (class : Class) → after.reach ≡ clusters.reach
+        → after.classes.items ≡ set clusters.classes.items k class
+        → AreKnown moment stock.ads after.known → after.free ≡ clusters.free → IsClass moment stock settings jobs class
+        → AreClusters moment stock settings jobs after
+    one-changed after k class reach classes known free is = record {
       reach = subst (λ (o : Option Reach). IfSome o (λ r. HasReadAds r stock.ads)) (sym reach) are.reach;
       classes = subst (All (IsClass moment stock settings jobs)) (sym classes)
           (All-set (IsClass moment stock settings jobs) clusters.classes.items k class is are.classes);
       known = known;
+      free = free ∙ are.free;
+      few = let few = are.few in omega (arith, free, few);
     }
 
     pub one-more : (after : Clusters) (class : Class) → after.reach ≡ clusters.reach → after.classes.items ≡ clusters.classes.items ++ class ∷ []
-        → after.known ≡ clusters.known → IsClass moment stock settings jobs class → AreClusters moment stock settings jobs after
-    one-more after class reach classes known is = record {
+        → after.known ≡ clusters.known → after.free ≡ clusters.free → IsClass moment stock settings jobs class
+        → AreClusters moment stock settings jobs after
+    one-more after class reach classes known free is = record {
       reach = subst (λ (o : Option Reach). IfSome o (λ r. HasReadAds r stock.ads)) (sym reach) are.reach;
       classes = subst (All (IsClass moment stock settings jobs)) (sym classes)
           (All-push (IsClass moment stock settings jobs) clusters.classes.items class are.classes is);
       known = subst (AreKnown moment stock.ads) (sym known) are.known;
+      free = free ∙ are.free;
+      few = let few = are.few in omega (arith, free, few);
     }
 
-pub same-clusters : (scene : Scene) {jobs later : List Job} {clusters after : Clusters} → later ≡ jobs → after ≡ clusters → AreClusters scene.moment (stock_in scene) (settings_in scene) jobs clusters → AreClusters scene.moment (stock_in scene) (settings_in scene) later after
+pub same-clusters : (scene : Scene) {jobs later : List Job} {clusters after : Clusters} → later ≡ jobs → after ≡ clusters
+    → AreClusters scene.moment (stock_in scene) (settings_in scene) jobs clusters
+    → AreClusters scene.moment (stock_in scene) (settings_in scene) later after
 same-clusters scene jobs_are clusters_are are = rw (jobs_are, clusters_are) are
 
 -- looks that were made, with those that are saved
@@ -160,7 +183,8 @@ module _ (moment : ℕ) (stock : Stock) (settings : List Setting) (jobs : List J
   abbrev later : List Job
   later = with_standing jobs i (Stage.Matched slots)
 
-  ranked-later : (request : List Frame) (number : ℕ) (ranked : Ranked) → IsRanked moment stock settings jobs request number ranked → IsRanked moment stock settings later request number ranked
+  ranked-later : (request : List Frame) (number : ℕ) (ranked : Ranked) → IsRanked moment stock settings jobs request number ranked
+      → IsRanked moment stock settings later request number ranked
   ranked-later request number ranked is = record {
     list = λ more grows.
         ap (λ holding. best_slot stock (pool_of moment stock more holding) request number) (fun_ext (holder-later jobs i slots idle settings))
@@ -171,9 +195,13 @@ module _ (moment : ℕ) (stock : Stock) (settings : List Setting) (jobs : List J
   class-later : (class : Class) → IsClass moment stock settings jobs class → IsClass moment stock settings later class
   class-later class is = record { marked = is.marked; ranked = IfSome_then class.ranked is.ranked (ranked-later (ad_frames class.ad) class.number) }
 
-  pub clusters-later : (clusters : Clusters) → AreClusters moment stock settings jobs clusters → AreClusters moment stock settings later clusters
-  clusters-later clusters are = record {
+  pub clusters-later : (clusters : Clusters) (taken : ℕ) → free_among stock later + taken ≡ free_among stock jobs
+      → AreClusters moment stock settings jobs clusters
+      → AreClusters moment stock settings later (record clusters { free = clusters.free - taken })
+  clusters-later clusters taken fewer are = record {
     reach = are.reach;
     classes = λ k d within. class-later (get_or clusters.classes.items k d) (are.classes k d within);
     known = are.known;
+    free = let free = are.free in omega (arith, free, fewer);
+    few = let few = are.few in omega (arith, few);
   }

@@ -1,5 +1,7 @@
 -- The gang that a request finds: distinct resources of the store that aren't offered, one for each port.
-use Rattle.std.proofs.Common.{◌≡◌, ◌≢◌, ◌<◌, ◌≤◌, ◌==◌, ℕ, zero, suc, Bool, true, false, not, ◌&&◌, ◌||◌, List, [], ◌∷◌, ◌++◌, All, AllPairs, Contains, get_or, length, map, slice_get, Option, None, Some, is_some, refl, ap, sym, ◌∙◌, subst, arith, eq-eqb}
+use Rattle.std.proofs.Common.{◌≡◌, ◌≢◌, ◌<◌, ◌≤◌, ◌==◌, ℕ, zero, suc, Bool, true, false, not, ◌&&◌, ◌||◌, List, []}
+use Rattle.std.proofs.Common.{◌∷◌, ◌++◌, All, AllPairs, Contains, get_or, length, map, slice_get, Option, None, Some, is_some, refl, ap, sym}
+use Rattle.std.proofs.Common.{◌∙◌, subst, arith, eq-eqb}
 use Rattle.std.specs.Prelude.{IfSome, option_map}
 use Rattle.std.specs.List.{list_any, range_with_len}
 use Rattle.std.specs.Option.{option_map_or}
@@ -38,9 +40,12 @@ either-false false true e = absurd (cc)
 either-false true b e = absurd (cc)
 
 -- a place in front of a tuple
-module _ (before : List ℕ) (place : ℕ) (tuple : List ℕ) (outside : is_among before place ≡ false) (behind : IsApart (before ++ place ∷ []) tuple) where
-  neither : (other : ℕ) → is_among (before ++ place ∷ []) other ≡ false → (is_among before other ≡ false) × (list_any (λ p. p == other) (place ∷ []) ≡ false)
-  neither other e = either-false (is_among before other) (list_any (λ p. p == other) (place ∷ [])) (sym (any-append (λ p. p == other) before (place ∷ [])) ∙ e)
+module _ (before : List ℕ) (place : ℕ) (tuple : List ℕ) (outside : is_among before place ≡ false)
+    (behind : IsApart (before ++ place ∷ []) tuple) where
+  neither : (other : ℕ) → is_among (before ++ place ∷ []) other ≡ false
+      → (is_among before other ≡ false) × (list_any (λ p. p == other) (place ∷ []) ≡ false)
+  neither other e =
+      either-false (is_among before other) (list_any (λ p. p == other) (place ∷ [])) (sym (any-append (λ p. p == other) before (place ∷ [])) ∙ e)
 
   differs : (other : ℕ) → is_among (before ++ place ∷ []) other ≡ false → place ≢ other
   differs other e same = by (place == other) (eq-eqb place other same) ((neither other e).1)
@@ -70,16 +75,23 @@ module _ (choice : Choice) where
       All-flat_map (λ tuple. length tuple ≡ suc n) (below n before) (next choice before)
       (λ k d within.
       let place = get_or (next choice before) k d in
-      All-map (λ tuple. length tuple ≡ suc n) (λ tuple. place ∷ tuple) (tuples choice n (before ++ place ∷ [])) (λ j e w. ap suc (tuples-long n (before ++ place ∷ []) j e w)))
+      All-map (λ tuple. length tuple ≡ suc n) (λ tuple. place ∷ tuple) (tuples choice n (before ++ place ∷ []))
+      (λ j e w. ap suc (tuples-long n (before ++ place ∷ []) j e w)))
 
   tuples-apart : (n : ℕ) (before : List ℕ) → All (IsApart before) (tuples choice n before)
   unfolding tuples next fits
-  tuples-apart zero before = All-cons (IsApart before) [] [] (record { outside = All-nil (λ p. is_among before p ≡ false); distinct = λ i j d lower within. absurd (omega (arith, within)) }) (All-nil (IsApart before))
+  tuples-apart zero before =
+      All-cons (IsApart before) [] [] (record {
+        outside =
+            All-nil (λ p. is_among before p ≡ false);
+        distinct = λ i j d lower within. absurd (omega (arith, within));
+      }) (All-nil (IsApart before))
   tuples-apart (suc n) before =
       All-flat_map (IsApart before) (below n before) (next choice before)
       (λ k d within.
       let place = get_or (next choice before) k d in
-      let outside : is_among before place ≡ false = fits-outside (is_among before place) (choice.dock before place) (filter_passes (fits choice before) choice.free k d within) in
+      let outside : is_among before place ≡ false =
+      fits-outside (is_among before place) (choice.dock before place) (filter_passes (fits choice before) choice.free k d within) in
       All-map (IsApart before) (λ tuple. place ∷ tuple) (tuples choice n (before ++ place ∷ []))
       (λ j e w. apart-cons before place (get_or (tuples choice n (before ++ place ∷ [])) j e) outside (tuples-apart n (before ++ place ∷ []) j e w)))
 
@@ -102,20 +114,26 @@ module _ (pool : Pool) (request : List Frame) (ports : List Port) (places : List
   unfolding free_places
   gang-free =
       All-contains (λ tuple. All (λ place. is_free pool place ≡ true) tuple) all places
-      (all-tuples (choice_of pool request ports) (λ place. is_free pool place ≡ true) (filter_passes (is_free pool) (range_with_len 0 (length pool.ads))) (length ports) [])
+      (all-tuples (choice_of pool request ports) (λ place. is_free pool place ≡ true) (filter_passes (is_free pool) (range_with_len 0 (length pool.ads)))
+      (length ports) [])
       first.among
 
   pub gang-below : All (λ place. place < length pool.ads) places
-  gang-below = All-weaker (λ place. is_free pool place ≡ true) (λ place. place < length pool.ads) (λ place free. by place (slice_get pool.ads place) refl free) places gang-free
+  gang-below =
+      All-weaker (λ place. is_free pool place ≡ true) (λ place. place < length pool.ads) (λ place free. by place (slice_get pool.ads place) refl free)
+      places gang-free
     where
-      by : (place : ℕ) (o : Option Advert) → slice_get pool.ads place ≡ o → option_map_or (is_live pool.moment) o false && (not (pool.is_offered place) && not (is_some (pool.held_in place))) ≡ true → place < length pool.ads
+      by : (place : ℕ) (o : Option Advert) → slice_get pool.ads place ≡ o
+          → option_map_or (is_live pool.moment) o false && (not (pool.is_offered place) && not (is_some (pool.held_in place))) ≡ true
+          → place < length pool.ads
       by place None at free = absurd (cc)
       by place (Some advert) at free = slice_get_within pool.ads place advert at
 
   gang-unoffered : All (λ place. pool.is_offered place ≡ false) places
   gang-unoffered =
       All-weaker (λ place. is_free pool place ≡ true) (λ place. pool.is_offered place ≡ false)
-      (λ place free. by (option_map_or (is_live pool.moment) (slice_get pool.ads place) false) (pool.is_offered place) (not (is_some (pool.held_in place))) free) places gang-free
+      (λ place free. by (option_map_or (is_live pool.moment) (slice_get pool.ads place) false) (pool.is_offered place) (not (is_some (pool.held_in place)))
+      free) places gang-free
     where
       by : (a b c : Bool) → a && (not b && c) ≡ true → b ≡ false
       by a false c e = refl
@@ -148,7 +166,8 @@ module _ (moment : ℕ) (stock : Stock) (settings : List Setting) (jobs : List J
     pub slots-free : AreFree (map (slot_at stock) places) jobs
     slots-free =
         All-map (λ slot. offered_to slot jobs ≡ None) (slot_at stock) places
-        (All-weaker (λ place. pool.is_offered place ≡ false) (λ place. offered_to (slot_at stock place) jobs ≡ None) (λ place e. not-some (offered_to (slot_at stock place) jobs) e) places (gang-unoffered pool request ports places is))
+        (All-weaker (λ place. pool.is_offered place ≡ false) (λ place. offered_to (slot_at stock place) jobs ≡ None)
+        (λ place e. not-some (offered_to (slot_at stock place) jobs) e) places (gang-unoffered pool request ports places is))
 
     module _ (beside : length stock.ads ≤ length stock.slots) where
       within-slots : (k : ℕ) → k < length places → get_or places k 0 < length stock.slots
@@ -158,15 +177,20 @@ module _ (moment : ℕ) (stock : Stock) (settings : List Setting) (jobs : List J
       slots-stored =
           All-map (Contains stock.slots) (slot_at stock) places
           (All-weaker (λ place. place < length stock.ads) (λ place. Contains stock.slots (slot_at stock place))
-          (λ place low. let within : place < length stock.slots = omega (arith, low, beside) in (place, within, get_or_default stock.slots place (slot_at stock place) 0 within)) places (gang-below pool request ports places is))
+          (λ place low. let within : place < length stock.slots =
+          omega (arith, low, beside) in (place, within, get_or_default stock.slots place (slot_at stock place) 0 within)) places
+          (gang-below pool request ports places is))
 
       -- distinct places have distinct slots
-      pub slots-distinct : ((i j slot : ℕ) → slice_get stock.slots i ≡ Some slot → slice_get stock.slots j ≡ Some slot → i ≡ j) → AllPairs (λ a b. a ≢ b) (map (slot_at stock) places)
+      pub slots-distinct : ((i j slot : ℕ) → slice_get stock.slots i ≡ Some slot → slice_get stock.slots j ≡ Some slot → i ≡ j)
+          → AllPairs (λ a b. a ≢ b) (map (slot_at stock) places)
       slots-distinct apart i j d lower within = λ same.
           let long = length-mapped (slot_at stock) places in
           let inside : j < length places = omega (arith, within, long) in
           let before : i < length places = omega (arith, lower, inside) in
           let one = slice_get-get_or stock.slots (get_or places i 0) 0 (within-slots i before) in
           let other = slice_get-get_or stock.slots (get_or places j 0) 0 (within-slots j inside) in
-          let slots : slot_at stock (get_or places i 0) ≡ slot_at stock (get_or places j 0) = sym (mapped-at (slot_at stock) places i d 0 before) ∙ same ∙ mapped-at (slot_at stock) places j d 0 inside in
-          gang-apart pool request ports places is i j 0 lower inside (apart (get_or places i 0) (get_or places j 0) (slot_at stock (get_or places j 0)) (one ∙ ap Some slots) other)
+          let slots : slot_at stock (get_or places i 0) ≡ slot_at stock (get_or places j 0) =
+          sym (mapped-at (slot_at stock) places i d 0 before) ∙ same ∙ mapped-at (slot_at stock) places j d 0 inside in
+          gang-apart pool request ports places is i j 0 lower inside
+          (apart (get_or places i 0) (get_or places j 0) (slot_at stock (get_or places j 0)) (one ∙ ap Some slots) other)

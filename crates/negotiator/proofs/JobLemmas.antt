@@ -1,5 +1,7 @@
 -- Jobs, and the pool that they see, once one more offer is made.
-use Rattle.std.proofs.Common.{◌≡◌, ◌≤◌, ◌+◌, ◌==◌, ℕ, zero, suc, Bool, true, false, not, ◌&&◌, ◌||◌, cond, eqb, All, List, [], ◌∷◌, length, map, position, slice_get, slice_set, Option, None, Some, is_some, ltb, refl, ap, sym, ◌∙◌, subst, arith}
+use Rattle.std.proofs.Common.{◌≡◌, ◌≤◌, ◌+◌, ◌==◌, ℕ, zero, suc, Bool, true, false, not, ◌&&◌, ◌||◌, cond, eqb, All, List, []}
+use Rattle.std.proofs.Common.{◌∷◌, length, map, position, slice_get, slice_set, Option, None, Some, is_none, is_some, ltb, refl, ap, sym, ◌∙◌}
+use Rattle.std.proofs.Common.{subst, arith}
 use Rattle.std.specs.Prelude.{option_and_then, option_map}
 use Rattle.std.specs.List.{list_any, position_or_len}
 use Rattle.std.specs.Option.{option_map_or}
@@ -26,7 +28,7 @@ use Rattle.claim_table.specs.Priorities.{Setting, priority_of}
 use Rattle.gang_ports.specs.Gangs.{gang}
 use Rattle.gang_ports.proofs.PoolLemmas.{attributes-later, docks-later, gang-later}
 use Rattle.negotiator.specs.Budget.{entries_by, entries_for, evaluations_by, evaluations_for, is_idle_at}
-use Rattle.negotiator.specs.Markets.{found, found_by, found_for, is_idle, pool_for}
+use Rattle.negotiator.specs.Markets.{found, found_by, found_for, is_free, is_idle, pool_for}
 
 -- ---- a job that is idle
 
@@ -58,9 +60,11 @@ position-within : {A : Type 0} (p : A → Bool) (xs : List A) → ltb (position_
 position-within p [] = refl
 position-within p (x ∷ xs) = by (p x) (position-within p xs)
   where
-    by : (b : Bool) → ltb (position_or_len p xs) (length xs) ≡ list_any p xs → ltb (cond (not b) (1 + position_or_len p xs) 0) (suc (length xs)) ≡ b || list_any p xs
+    by : (b : Bool) → ltb (position_or_len p xs) (length xs) ≡ list_any p xs
+        → ltb (cond (not b) (1 + position_or_len p xs) 0) (suc (length xs)) ≡ b || list_any p xs
     by true rest = grind (arith, nat_tests)
-    by false rest = let same : ltb (1 + position_or_len p xs) (suc (length xs)) ≡ ltb (position_or_len p xs) (length xs) = grind (arith, nat_tests) in same ∙ rest
+    by false rest =
+        let same : ltb (1 + position_or_len p xs) (suc (length xs)) ≡ ltb (position_or_len p xs) (length xs) = grind (arith, nat_tests) in same ∙ rest
 
 pub position-some : {A : Type 0} (p : A → Bool) (xs : List A) → is_some (position p xs) ≡ list_any p xs
 position-some p xs = by (ltb (position_or_len p xs) (length xs)) ∙ position-within p xs
@@ -69,35 +73,39 @@ position-some p xs = by (ltb (position_or_len p xs) (length xs)) ∙ position-wi
     by true = refl
     by false = refl
 
-any-set : {A : Type 0} (p : A → Bool) (xs : List A) (i : ℕ) (old new : A) → slice_get xs i ≡ Some old → p old ≡ false → list_any p xs ≡ true → list_any p (slice_set xs i new) ≡ true
-any-set p [] i old new at none some = absurd (none-some old at)
-any-set p (x ∷ xs) zero old new at none some =
-    let here = same_Some x old at in
-    let rest : list_any p xs ≡ true = sym (ap (λ b. b || list_any p xs) (ap p here ∙ none)) ∙ some in
-    rw rest (or-true (p new))
+any-put : {A : Type 0} (p : A → Bool) (xs : List A) (i : ℕ) (old new : A) → slice_get xs i ≡ Some old → p old ≡ false
+    → list_any p (slice_set xs i new) ≡ list_any p xs || p new
+any-put p [] i old new at none = absurd (none-some old at)
+any-put p (x ∷ xs) zero old new at none =
+    swapped (p new) (list_any p xs) ∙ ap (λ b. (b || list_any p xs) || p new) (sym (ap p (same_Some x old at) ∙ none))
   where
-    or-true : (a : Bool) → a || true ≡ true
-    or-true true = refl
-    or-true false = refl
-any-set p (x ∷ xs) (suc i) old new at none some = by (p x) some (any-set p xs i old new at none)
+    swapped : (a b : Bool) → a || b ≡ (false || b) || a
+    swapped true true = refl
+    swapped true false = refl
+    swapped false true = refl
+    swapped false false = refl
+any-put p (x ∷ xs) (suc i) old new at none = ap (λ b. p x || b) (any-put p xs i old new at none) ∙ by (p x)
   where
-    by : (b : Bool) → b || list_any p xs ≡ true → (list_any p xs ≡ true → list_any p (slice_set xs i new) ≡ true) → b || list_any p (slice_set xs i new) ≡ true
-    by true some rest = refl
-    by false some rest = rest some
+    by : (b : Bool) → b || (list_any p xs || p new) ≡ (b || list_any p xs) || p new
+    by true = refl
+    by false = refl
 
-pub idle-set : (jobs : List Job) (i k : ℕ) (old new : Job) → slice_get jobs i ≡ Some old → is_idle new.standing ≡ false → is_idle_at (slice_set jobs i new) k ≡ (is_idle_at jobs k && not (i == k))
+pub idle-set : (jobs : List Job) (i k : ℕ) (old new : Job) → slice_get jobs i ≡ Some old → is_idle new.standing ≡ false
+    → is_idle_at (slice_set jobs i new) k ≡ (is_idle_at jobs k && not (i == k))
 idle-set [] i k old new at busy = absurd (none-some old at)
 idle-set (j ∷ jobs) zero zero old new at busy = busy ∙ sym (none (is_idle j.standing))
   where
     none : (b : Bool) → b && not (eqb 0 0) ≡ false
     none true = refl
     none false = refl
-idle-set (j ∷ jobs) zero (suc k) old new at busy = let other : eqb 0 (suc k) ≡ false = grind (arith, nat_tests) in sym (ap (λ b. is_idle_at jobs k && not b) other ∙ same (is_idle_at jobs k))
+idle-set (j ∷ jobs) zero (suc k) old new at busy =
+    let other : eqb 0 (suc k) ≡ false = grind (arith, nat_tests) in sym (ap (λ b. is_idle_at jobs k && not b) other ∙ same (is_idle_at jobs k))
   where
     same : (b : Bool) → b && true ≡ b
     same true = refl
     same false = refl
-idle-set (j ∷ jobs) (suc i) zero old new at busy = let other : eqb (suc i) 0 ≡ false = grind (arith, nat_tests) in sym (ap (λ b. is_idle j.standing && not b) other ∙ same (is_idle j.standing))
+idle-set (j ∷ jobs) (suc i) zero old new at busy =
+    let other : eqb (suc i) 0 ≡ false = grind (arith, nat_tests) in sym (ap (λ b. is_idle j.standing && not b) other ∙ same (is_idle j.standing))
   where
     same : (b : Bool) → b && true ≡ b
     same true = refl
@@ -113,7 +121,9 @@ all-same P jobs others same all = All-unmap others (subst (All P) (sym same) (Al
   where
     All-unmap : (js : List Job) → All P (map (λ (job : Job). job.request) js) → All (λ (job : Job). P job.request) js
     All-unmap [] h = All-nil (λ (job : Job). P job.request)
-    All-unmap (j ∷ js) h = All-cons (λ (job : Job). P job.request) j js (All-head P j.request (map (λ (job : Job). job.request) js) h) (All-unmap js (All-tail P j.request (map (λ (job : Job). job.request) js) h))
+    All-unmap (j ∷ js) h =
+        All-cons (λ (job : Job). P job.request) j js (All-head P j.request (map (λ (job : Job). job.request) js) h)
+        (All-unmap js (All-tail P j.request (map (λ (job : Job). job.request) js) h))
 
 -- ---- one more offer
 
@@ -154,13 +164,23 @@ module _ (jobs : List Job) (i : ℕ) (slots : List ℕ) (idle : is_idle_at jobs 
       ∙ position-map (λ (b : Bool). b) (claims slot) jobs
 
   module _ (settings : List Setting) where
-    holding-at : (js : List Job) (slot : ℕ) (o : Option ℕ) → option_map (holding_in settings slot) (option_and_then (λ k. slice_get js k) o) ≡ option_and_then (λ k. slice_get (map (holding_in settings slot) js) k) o
+    holding-at : (js : List Job) (slot : ℕ) (o : Option ℕ)
+        → option_map (holding_in settings slot) (option_and_then (λ k. slice_get js k) o)
+        ≡ option_and_then (λ k. slice_get (map (holding_in settings slot) js) k) o
     holding-at js slot None = refl
     holding-at js slot (Some k) = sym (get-map (holding_in settings slot) js k)
 
     no-holding : (slot : ℕ) → holding_in settings slot changed ≡ holding_in settings slot one.job
     no-holding slot =
-        sym (ap (λ (s : Stage). let h : Holding = record { request = one.job.request; slots = claim_of s; port = position_or_len (λ t. t == slot) (claim_of s); number = priority_of one.job.user settings } in h) one.idle)
+        sym (ap (λ (s : Stage). let h : Holding =
+        record {
+          request =
+              one.job.request;
+          slots = claim_of s;
+          port = position_or_len (λ t. t == slot) (claim_of s);
+          number = priority_of one.job.user settings;
+        } in h)
+        one.idle)
 
     pub holder-later : (slot : ℕ) → holder_of settings later slot ≡ holder_of settings jobs slot
     holder-later slot =
@@ -176,15 +196,35 @@ module _ (jobs : List Job) (i : ℕ) (slots : List ℕ) (idle : is_idle_at jobs 
   pub all-later : (P : Request → Type 0) → All (λ (job : Job). P job.request) jobs → All (λ (job : Job). P job.request) later
   all-later P all = all-same P jobs later requests-later all
 
-  -- ---- what is offered stays offered
+  -- ---- what is offered stays offered, and more is
 
-  pub offered-later : (slot : ℕ) → is_some (offered_to slot jobs) ≡ true → is_some (offered_to slot later) ≡ true
-  offered-later slot some =
-      let offers : Job → Bool = λ job. lists (offer_of job.standing) slot in
-      let before : list_any (λ (job : Job). lists (offer_of job.standing) slot) jobs ≡ true = sym (position-some (λ (job : Job). lists (offer_of job.standing) slot) jobs) ∙ some in
+  offers-later : (slot : ℕ) → is_some (offered_to slot later) ≡ is_some (offered_to slot jobs) || lists slots slot
+  offers-later slot =
       position-some (λ (job : Job). lists (offer_of job.standing) slot) later
       ∙ ap (list_any (λ (job : Job). lists (offer_of job.standing) slot)) later-is
-      ∙ any-set (λ (job : Job). lists (offer_of job.standing) slot) jobs i one.job changed one.at (ap (λ s. lists (offer_of s) slot) one.idle) before
+      ∙ any-put (λ (job : Job). lists (offer_of job.standing) slot) jobs i one.job changed one.at (ap (λ s. lists (offer_of s) slot) one.idle)
+      ∙ ap (λ b. b || lists slots slot) (sym (position-some (λ (job : Job). lists (offer_of job.standing) slot) jobs))
+
+  pub offered-later : (slot : ℕ) → is_some (offered_to slot jobs) ≡ true → is_some (offered_to slot later) ≡ true
+  offered-later slot some = offers-later slot ∙ ap (λ b. b || lists slots slot) some
+
+  pub free-later : (slot : ℕ) → is_free later slot ≡ (is_free jobs slot && not (lists slots slot))
+  free-later slot =
+      ap (λ b. b && is_none (claimed_by slot later)) (none-is (offered_to slot later) ∙ ap not (offers-later slot))
+      ∙ ap (λ o. not (is_some (offered_to slot jobs) || lists slots slot) && is_none o) (claimed-later slot)
+      ∙ by (is_some (offered_to slot jobs)) (lists slots slot) (is_none (claimed_by slot jobs))
+      ∙ ap (λ b. (b && is_none (claimed_by slot jobs)) && not (lists slots slot)) (sym (none-is (offered_to slot jobs)))
+    where
+      none-is : (o : Option ℕ) → is_none o ≡ not (is_some o)
+      none-is None = refl
+      none-is (Some n) = refl
+
+      by : (a b c : Bool) → (not (a || b) && c) ≡ ((not a && c) && not b)
+      by true b c = refl
+      by false true true = refl
+      by false true false = refl
+      by false false true = refl
+      by false false false = refl
 
   -- ---- who is idle
 
@@ -206,9 +246,11 @@ module _ (jobs : List Job) (i : ℕ) (slots : List ℕ) (idle : is_idle_at jobs 
     more : (place : ℕ) → before.is_offered place ≡ true → offered place ≡ true
     more place some = offered-later (slot_at stock place) some
 
-    fails-by : (number : ℕ) (request : List Frame) (ports : List Port) → found_by stock before number request ports ≡ None → found_by stock (record before { is_offered = offered }) number request ports ≡ None
+    fails-by : (number : ℕ) (request : List Frame) (ports : List Port) → found_by stock before number request ports ≡ None
+        → found_by stock (record before { is_offered = offered }) number request ports ≡ None
     fails-by number request [] none =
-        ap (λ o. option_map (λ slot. slot ∷ []) (option_map (λ (m : Member). slot_at stock m.place) o)) (none-later before request offered more number (no-member (best before request number) none))
+        ap (λ o. option_map (λ slot. slot ∷ []) (option_map (λ (m : Member). slot_at stock m.place) o))
+        (none-later before request offered more number (no-member (best before request number) none))
       where
         no-member : (o : Option Member) → option_map (λ slot. slot ∷ []) (option_map (λ (m : Member). slot_at stock m.place) o) ≡ None → o ≡ None
         no-member None e = refl
@@ -220,34 +262,43 @@ module _ (jobs : List Job) (i : ℕ) (slots : List ℕ) (idle : is_idle_at jobs 
         no-gang None e = refl
         no-gang (Some places) e = absurd (cc)
 
-    pub fails-later : (number : ℕ) (request : Request) → found_for moment stock settings jobs number request ≡ None → found_for moment stock settings later number request ≡ None
-    fails-later number request none = ap (λ pool. found_by stock pool number (ad_frames request.ad) request.ports) pool-later ∙ fails-by number (ad_frames request.ad) request.ports none
+    pub fails-later : (number : ℕ) (request : Request) → found_for moment stock settings jobs number request ≡ None
+        → found_for moment stock settings later number request ≡ None
+    fails-later number request none =
+        ap (λ pool. found_by stock pool number (ad_frames request.ad) request.ports) pool-later ∙ fails-by number (ad_frames request.ad) request.ports none
 
-    evaluations-fewer : (request : List Frame) (ports : List Port) → evaluations_by (record before { is_offered = offered }) request ports ≤ evaluations_by before request ports
+    evaluations-fewer : (request : List Frame) (ports : List Port)
+        → evaluations_by (record before { is_offered = offered }) request ports ≤ evaluations_by before request ports
     evaluations-fewer request [] = let fewer = fewer-open before request offered more in omega (arith, fewer)
     evaluations-fewer request (port ∷ ports) = let fewer = docks-later before request (port ∷ ports) offered more in omega (arith, fewer)
 
     pub evaluations-later : (request : Request) → evaluations_for moment stock settings later request ≤ evaluations_for moment stock settings jobs request
     evaluations-later request =
-        subst (λ pool. evaluations_by pool (ad_frames request.ad) request.ports ≤ evaluations_for moment stock settings jobs request) (sym pool-later) (evaluations-fewer (ad_frames request.ad) request.ports)
+        subst (λ pool. evaluations_by pool (ad_frames request.ad) request.ports ≤ evaluations_for moment stock settings jobs request) (sym pool-later)
+        (evaluations-fewer (ad_frames request.ad) request.ports)
 
-    entries-fewer : (request : List Frame) (ports : List Port) → entries_by (record before { is_offered = offered }) request ports ≤ entries_by before request ports
+    entries-fewer : (request : List Frame) (ports : List Port)
+        → entries_by (record before { is_offered = offered }) request ports ≤ entries_by before request ports
     entries-fewer request [] = fewer-entered before request offered more
     entries-fewer request (port ∷ ports) = attributes-later before request (port ∷ ports) offered more
 
     pub entries-later : (request : Request) → entries_for moment stock settings later request ≤ entries_for moment stock settings jobs request
     entries-later request =
-        subst (λ pool. entries_by pool (ad_frames request.ad) request.ports ≤ entries_for moment stock settings jobs request) (sym pool-later) (entries-fewer (ad_frames request.ad) request.ports)
+        subst (λ pool. entries_by pool (ad_frames request.ad) request.ports ≤ entries_for moment stock settings jobs request) (sym pool-later)
+        (entries-fewer (ad_frames request.ad) request.ports)
 
     -- the number of a job's user, and what the job asks for
     abbrev asked_by : Job → ℕ × Request
     asked_by job = (priority_of job.user settings, job.request)
 
-    found-at : (js : List Job) (k : ℕ) → found moment stock settings js k ≡ option_and_then (λ (a : ℕ × Request). found_for moment stock settings js a.0 a.1) (slice_get (map asked_by js) k)
+    found-at : (js : List Job) (k : ℕ)
+        → found moment stock settings js k ≡ option_and_then (λ (a : ℕ × Request). found_for moment stock settings js a.0 a.1) (slice_get
+        (map asked_by js) k)
     found-at js k = by js k (λ n r. found_for moment stock settings js n r)
       where
         by : (js : List Job) (k : ℕ) (h : ℕ → Request → Option (List ℕ))
-            → option_and_then (λ (job : Job). h (priority_of job.user settings) job.request) (slice_get js k) ≡ option_and_then (λ (a : ℕ × Request). h a.0 a.1) (slice_get (map asked_by js) k)
+            → option_and_then (λ (job : Job). h (priority_of job.user settings) job.request) (slice_get js k)
+            ≡ option_and_then (λ (a : ℕ × Request). h a.0 a.1) (slice_get (map asked_by js) k)
         by [] k h = refl
         by (j ∷ js) zero h = refl
         by (j ∷ js) (suc k) h = by js k h
@@ -255,9 +306,11 @@ module _ (jobs : List Job) (i : ℕ) (slots : List ℕ) (idle : is_idle_at jobs 
     pub found-later : (k : ℕ) → found moment stock settings jobs k ≡ None → found moment stock settings later k ≡ None
     found-later k none =
         found-at later k
-        ∙ ap (λ asked. option_and_then (λ (a : ℕ × Request). found_for moment stock settings later a.0 a.1) (slice_get asked k)) (map-later asked_by refl)
+        ∙ ap (λ asked. option_and_then (λ (a : ℕ × Request). found_for moment stock settings later a.0 a.1) (slice_get asked k))
+        (map-later asked_by refl)
         ∙ by (slice_get (map asked_by jobs) k) (sym (found-at jobs k) ∙ none)
       where
-        by : (o : Option (ℕ × Request)) → option_and_then (λ (a : ℕ × Request). found_for moment stock settings jobs a.0 a.1) o ≡ None → option_and_then (λ (a : ℕ × Request). found_for moment stock settings later a.0 a.1) o ≡ None
+        by : (o : Option (ℕ × Request)) → option_and_then (λ (a : ℕ × Request). found_for moment stock settings jobs a.0 a.1) o ≡ None
+            → option_and_then (λ (a : ℕ × Request). found_for moment stock settings later a.0 a.1) o ≡ None
         by None e = refl
         by (Some a) e = fails-later a.0 a.1 e

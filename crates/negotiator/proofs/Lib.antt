@@ -3,7 +3,9 @@ pub mod AlikeLemmas
 mod BudgetLemmas
 mod ClusterLemmas
 pub mod CycleLemmas
+mod FreeLemmas
 pub mod GangLemmas
+mod HeadLemmas
 pub mod JobLemmas
 mod QueueLemmas
 mod ReadyLemmas

@@ -1,30 +1,41 @@
 -- Queues of users in order: how a place is added, and what they hold once all jobs are added.
-use Rattle.std.proofs.Common.{◌≡◌, ◌≢◌, ◌<◌, ◌≤◌, ◌+◌, ℕ, zero, suc, Bool, true, false, cond, List, [], ◌∷◌, ◌++◌, All, filter, length, map, get_or, set, take, bytes_eq, Less, Equal, Greater, refl, ap, sym, ◌∙◌, ◌||◌, subst, arith, add-zero, zero-add}
-use Rattle.std.specs.Prelude.{insert, slice_get, Some}
+use Rattle.std.proofs.Common.{◌≡◌, ◌≢◌, ◌<◌, ◌≤◌, ◌+◌, ℕ, zero, suc, Bool, true, false, cond, List, [], ◌∷◌, ◌++◌, All}
+use Rattle.std.proofs.Common.{filter, length, map, get_or, take, bytes_eq, Less, Equal, Greater, refl, ap, sym, ◌∙◌, ◌||◌, subst, arith, add-zero}
+use Rattle.std.proofs.Common.{zero-add}
+use Rattle.std.specs.Prelude.{slice_get, Option, Some, unwrap_or}
+use Rattle.std.specs.BTreeMap.{insert_entry, is_at}
 use Rattle.std.specs.BTreeSet.{insert_key}
+use Rattle.std.specs.Cmp.{IsTotalOrder}
+use Rattle.std.specs.Map.{keys_of, lookup}
 use Rattle.std.specs.Cmp.Lexicographic.{slice_cmp}
-use Rattle.std.specs.List.{AllByRecursion, AllWithin, list_any, range_with_len}
-use Rattle.std.specs.List.Sorted.{IsNonDecreasingBy, IsSortedBy, IsStrictlySortedBy}
+use Rattle.std.specs.List.{AllByRecursion, list_any, range_with_len}
+use Rattle.std.specs.List.Sorted.{IsStrictlySortedBy}
 use Rattle.std.specs.Option.{option_map_or}
-use Rattle.std.specs.Ordering.{is_lt, match_ordering, nat_cmp, ordering_index, ordering_reverse, ordering_then}
+use Rattle.std.specs.Ordering.{is_eq, match_ordering, nat_cmp, ordering_reverse, ordering_then}
 use Rattle.std.specs.declared.cmp.Ordering.{Ordering}
+use Rattle.std.proofs.lemmas.Cmp.{nat_cmp_total, nat_list_cmp_total, on_total, then_total}
 use Rattle.std.proofs.lemmas.List.{append-nil, take_all}
 use Rattle.std.proofs.lemmas.List.Elements.{All-cons, All-head, All-nil, All-tail}
-use Rattle.std.proofs.lemmas.List.Sorted.{searchable_from_sorted}
 use Rattle.std.proofs.lemmas.List.Sums.{fold_more}
-use Rattle.std.proofs.lemmas.Map.Keys.{Less-from_sorted, sorted_head, sorted_tail}
+use Rattle.std.proofs.lemmas.Map.{lookup-none}
+use Rattle.std.proofs.lemmas.Map.Entries.{none_below_head}
+use Rattle.std.proofs.lemmas.Map.Keys.{sorted_head, sorted_tail}
 use Rattle.std.proofs.lemmas.Slice.Eq.{bytes_eq-Decides}
+use Rattle.claim_table.specs.Priorities.{user_order}
 use Rattle.negotiator.specs.declared.queues.Queue.{Queue}
-use Rattle.negotiator.specs.Cycle.{Market, Waiting, is_of, user_order}
-use Rattle.negotiator.specs.Queues.{AreQueues, enqueued}
+use Rattle.negotiator.specs.Cycle.{Market, Waiting, is_of}
+use Rattle.negotiator.specs.Queues.{AreQueues, Key, enqueued, key_order, queue_of}
 use Rattle.negotiator.proofs.UserLemmas.{from-among, from-sorted, none-sorted, order_exact, order_total, same-bytes, users_from}
+
+key_total : IsTotalOrder key_order
+key_total = then_total (on_total (λ (k : Key). k.0) nat_cmp_total) (on_total (λ (k : Key). k.1.items) nat_list_cmp_total)
 
 module _ (priority : List ℕ → ℕ) (user : List ℕ) (place : ℕ) where
   abbrev order : List ℕ → List ℕ → Ordering
   order = user_order priority
 
   abbrev new : Queue
-  new = record { user = user; number = priority user; places = place ∷ [] }
+  new = record { user = user; number = priority user; places = place ∷ []; head = 0; has_failed = false }
 
   abbrev longer : Queue → Queue
   longer queue = record queue { places = queue.places ++ place ∷ [] }
@@ -38,85 +49,54 @@ module _ (priority : List ℕ → ℕ) (user : List ℕ) (place : ℕ) where
   abbrev choice : Queue → List Queue → Ordering → List Queue
   choice queue queues r = match_ordering r (new ∷ queue ∷ queues) (longer queue ∷ queues) (queue ∷ enqueued priority user place queues)
 
-  before-place : (x : List ℕ) (xs : List (List ℕ)) (k : ℕ) (d : List ℕ) → AllByRecursion (λ y. order x y ≡ Less) xs → k < length xs → order x (get_or xs k d) ≡ Less
-  before-place x [] k d h within = absurd (omega (arith, within))
-  before-place x (y ∷ xs) zero d h within = h.0
-  before-place x (y ∷ xs) (suc k) d h within = before-place x xs k d h.1 (omega (arith, within))
+  -- ---- a place more in the map
 
-  length-users : (queues : List Queue) → length (users queues) ≡ length queues
-  length-users [] = refl
-  length-users (q ∷ qs) = ap suc (length-users qs)
+  -- the keys come in the order of their users
+  order-is : (a b : Key) → a.0 ≡ priority a.1.items → b.0 ≡ priority b.1.items → key_order a b ≡ order a.1.items b.1.items
+  order-is a b of_a of_b =
+      ap (λ n. ordering_then (nat_cmp n b.0) (slice_cmp nat_cmp a.1.items b.1.items)) of_a
+      ∙ ap (λ n. ordering_then (nat_cmp (priority a.1.items) n) (slice_cmp nat_cmp a.1.items b.1.items)) of_b
 
-  user-at : (queues : List Queue) (k : ℕ) (d : Queue) → k < length queues → get_or (users queues) k d.user ≡ (get_or queues k d).user
-  user-at [] k d within = absurd (omega (arith, within))
-  user-at (q ∷ qs) zero d within = refl
-  user-at (q ∷ qs) (suc k) d within = user-at qs k d (omega (arith, within))
+  abbrev Places : Type 0
+  Places = List (Key × List ℕ)
 
-  -- where the queue at a place is the user's, it is that one that gets longer
-  pub enqueued-found : (queues : List Queue) (k : ℕ) (d : Queue) → IsStrictlySortedBy order (users queues) → k < length queues → order (get_or queues k d).user user ≡ Equal
-      → set queues k (longer (get_or queues k d)) ≡ enqueued priority user place queues
-  enqueued-found [] k d sorted within e = absurd (omega (arith, within))
-  enqueued-found (q ∷ qs) zero d sorted within e = sym (ap (choice q qs) (turned q.user user Equal Equal e refl))
-  enqueued-found (q ∷ qs) (suc k) d sorted within e =
-      let within_rest : k < length qs = omega (arith, within) in
-      let rest = enqueued-found qs k d (sorted_tail order q.user (users qs) sorted) within_rest e in
-      let same : (get_or qs k d).user ≡ user = order_exact priority (get_or qs k d).user user e in
-      let before = before-place q.user (users qs) k d.user (sorted_head order q.user (users qs) sorted) (omega (arith, within_rest, length-users qs)) in
-      let less : order q.user user ≡ Less = ap (order q.user) (sym (user-at qs k d within_rest ∙ same)) ∙ before in
-      ap (λ l. q ∷ l) rest ∙ sym (ap (choice q qs) (turned q.user user Less Greater less refl))
+  abbrev grown : Key → Places → List ℕ
+  grown key es = unwrap_or (lookup (is_at (key_order key)) es) [] ++ place ∷ []
 
-  -- where the user is behind the queues before a place and before those from there on, a new one stands there
-  pub enqueued-new : (queues : List Queue) (k : ℕ) (d : Queue) → k ≤ length queues → ((j : ℕ) → j < k → order (get_or queues j d).user user ≡ Less) → ((j : ℕ) → k ≤ j → j < length queues → order (get_or queues j d).user user ≡ Greater)
-      → insert queues k new ≡ enqueued priority user place queues
-  enqueued-new [] zero d within below above = refl
-  enqueued-new [] (suc k) d within below above = absurd (omega (arith, within))
-  enqueued-new (q ∷ qs) zero d within below above = sym (ap (choice q qs) (turned q.user user Greater Less (above 0 (omega arith) (omega arith)) refl))
-  enqueued-new (q ∷ qs) (suc k) d within below above =
-      ap (λ l. q ∷ l) (enqueued-new qs k d (omega (arith, within)) (λ j low. below (suc j) (omega (arith, low))) (λ j low high. above (suc j) (omega (arith, low)) (omega (arith, high))))
-      ∙ sym (ap (choice q qs) (turned q.user user Less Greater (below 0 (omega arith)) refl))
+  pub gathered-more : (key : Key) → key.1.items ≡ user → key.0 ≡ priority user → (es : Places) → IsStrictlySortedBy key_order (keys_of es)
+      → All (λ (q : Queue). q.number ≡ priority q.user) (map queue_of es)
+      → map queue_of (insert_entry key_order es key (grown key es)) ≡ enqueued priority user place (map queue_of es)
+  gathered-more key name number [] sorted numbers =
+      ap (λ u. let q : Queue = record { user = u; number = key.0; places = place ∷ []; head = 0; has_failed = false } in q ∷ []) name
+      ∙ ap (λ n. let q : Queue = record { user = user; number = n; places = place ∷ []; head = 0; has_failed = false } in q ∷ []) number
+  gathered-more key name number (e ∷ es) sorted numbers =
+      by (key_order key e.0) refl (gathered-more key name number es (sorted_tail key_order e.0 (keys_of es) sorted)
+      (All-tail (λ (q : Queue). q.number ≡ priority q.user) (queue_of e) (map queue_of es) numbers))
+      ∙ ap (choice (queue_of e) (map queue_of es)) same
+    where
+      same : key_order key e.0 ≡ order user e.0.1.items
+      same =
+          order-is key e.0 (number ∙ ap priority (sym name)) (All-head (λ (q : Queue). q.number ≡ priority q.user) (queue_of e) (map queue_of es) numbers)
+          ∙ ap (λ u. order u e.0.1.items) name
 
-  -- ---- a search by the number in place of the priority
+      first : queue_of (key, place ∷ []) ≡ new
+      first =
+          ap (λ u. let q : Queue = record { user = u; number = key.0; places = place ∷ []; head = 0; has_failed = false } in q) name
+          ∙ ap (λ n. let q : Queue = record { user = user; number = n; places = place ∷ []; head = 0; has_failed = false } in q) number
 
-  module _ (queues : List Queue) (sorted : IsStrictlySortedBy order (users queues)) (numbers : All (λ (q : Queue). q.number ≡ priority q.user) queues) (n : ℕ) (number : n ≡ priority user) where
-    abbrev by-number : Queue → Ordering
-    by-number q = ordering_then (nat_cmp q.number n) (slice_cmp nat_cmp q.user user)
+      longer_by : Ordering → List ℕ
+      longer_by r = unwrap_or (cond (is_eq r) (Some e.1) (lookup (is_at (key_order key)) es)) [] ++ place ∷ []
 
-    order-is : (j : ℕ) (d : Queue) → j < length queues → by-number (get_or queues j d) ≡ order (get_or queues j d).user user
-    order-is j d within =
-        ap (λ m. ordering_then (nat_cmp m n) (slice_cmp nat_cmp (get_or queues j d).user user)) (numbers j d within)
-        ∙ ap (λ m. ordering_then (nat_cmp (priority (get_or queues j d).user) m) (slice_cmp nat_cmp (get_or queues j d).user user)) number
-
-    by-key : IsSortedBy (λ (a b : Queue). is_lt (order a.user b.user)) queues
-    by-key j d low high =
-        let less = Less-from_sorted order (users queues) j (j + 1) d.user sorted (omega arith) (omega (arith, high, length-users queues)) in
-        let one : order (get_or queues j d).user (get_or queues (j + 1) d).user ≡ Less =
-        ap (λ x. order x (get_or queues (j + 1) d).user) (sym (user-at queues j d (omega (arith, high))))
-        ∙ ap (order (get_or (users queues) j d.user)) (sym (user-at queues (j + 1) d high))
-        ∙ less in
-        ap is_lt (turned (get_or queues j d).user (get_or queues (j + 1) d).user Less Greater one refl)
-
-    pub searchable : IsNonDecreasingBy (λ q. ordering_index (by-number q)) queues
-    searchable i j d low high =
-        let at_i = ap ordering_index (order-is i d (omega (arith, low, high))) in
-        let at_j = ap ordering_index (order-is j d high) in
-        let rises = searchable_from_sorted (order_total priority) (λ (q : Queue). q.user) queues user by-key i j d low high in
-        omega (arith, at_i, at_j, rises)
-
-    pub push-step : (k : ℕ) (q : Queue) (ps : List ℕ) → k < length queues → q ≡ get_or queues k q → ((d : Queue) → by-number (get_or queues k d) ≡ Equal) → ps ≡ q.places ++ place ∷ []
-        → set queues k (record { user = q.user; number = q.number; places = ps }) ≡ enqueued priority user place queues
-    push-step k q ps within is found grown =
-        ap (λ l. set queues k (let r : Queue = record { user = q.user; number = q.number; places = l } in r)) grown
-        ∙ ap (λ r. set queues k (longer r)) is
-        ∙ enqueued-found queues k q sorted within (sym (order-is k q within) ∙ found q)
-
-    pub insert-step : (k : ℕ) (q : Queue) → k ≤ length queues → q ≡ record { user = user; number = n; places = place ∷ [] }
-        → AllWithin (λ q. by-number q ≡ Less) queues 0 k × AllWithin (λ q. by-number q ≡ Greater) queues k (length queues)
-        → insert queues k q ≡ enqueued priority user place queues
-    insert-step k q within is parts =
-        ap (insert queues k) (is ∙ ap (λ m. let r : Queue = record { user = user; number = m; places = place ∷ [] } in r) number)
-        ∙ enqueued-new queues k new within
-        (λ j low. sym (order-is j new (omega (arith, low, within))) ∙ parts.0 j new (omega arith) low)
-        (λ j low high. sym (order-is j new high) ∙ parts.1 j new low high)
+      by : (r : Ordering) → key_order key e.0 ≡ r
+          → map queue_of (insert_entry key_order es key (grown key es)) ≡ enqueued priority user place (map queue_of es)
+          → map queue_of (match_ordering r ((key, longer_by r) ∷ e ∷ es) ((e.0, longer_by r) ∷ es) (e ∷ insert_entry key_order es key (longer_by r)))
+          ≡ choice (queue_of e) (map queue_of es) r
+      by Less is rest =
+          ap (λ (o : Option (List ℕ)). queue_of (key, unwrap_or o [] ++ place ∷ []) ∷ map queue_of (e ∷ es))
+          (lookup-none (is_at (key_order key)) es ((none_below_head key_total key e es sorted is).1))
+          ∙ ap (λ q. q ∷ map queue_of (e ∷ es)) first
+      by Equal is rest = refl
+      by Greater is rest = ap (λ l. queue_of e ∷ l) rest
 
   -- ---- what they hold
 
@@ -124,7 +104,8 @@ module _ (priority : List ℕ → ℕ) (user : List ℕ) (place : ℕ) where
   enqueued-users [] = refl
   enqueued-users (q ∷ qs) = by (order user q.user) (enqueued-users qs)
     where
-      by : (r : Ordering) → users (enqueued priority user place qs) ≡ insert_key order (users qs) user → users (choice q qs r) ≡ match_ordering r (user ∷ q.user ∷ users qs) (q.user ∷ users qs) (q.user ∷ insert_key order (users qs) user)
+      by : (r : Ordering) → users (enqueued priority user place qs) ≡ insert_key order (users qs) user
+          → users (choice q qs r) ≡ match_ordering r (user ∷ q.user ∷ users qs) (q.user ∷ users qs) (q.user ∷ insert_key order (users qs) user)
       by Less rest = refl
       by Equal rest = refl
       by Greater rest = ap (λ l. q.user ∷ l) rest
@@ -151,17 +132,20 @@ module _ (priority : List ℕ → ℕ) (user : List ℕ) (place : ℕ) where
   none-among [] h = refl
   none-among (y ∷ ys) h = ap (λ b. b || list_any (bytes_eq user) ys) (not-named y h.0) ∙ none-among ys h.1
 
-  all-apart : (x : List ℕ) (ys : List (List ℕ)) → ((y : List ℕ) → order x y ≡ Less → y ≢ user) → AllByRecursion (λ y. order x y ≡ Less) ys → AllByRecursion (λ y. y ≢ user) ys
+  all-apart : (x : List ℕ) (ys : List (List ℕ)) → ((y : List ℕ) → order x y ≡ Less → y ≢ user) → AllByRecursion (λ y. order x y ≡ Less) ys
+      → AllByRecursion (λ y. y ≢ user) ys
   all-apart x [] each h = tt
   all-apart x (y ∷ ys) each h = (each y h.0, all-apart x ys each h.1)
 
   -- what holds of each, where it comes to hold of a new queue and of the user's own with one place more, and of the others as they are
-  module _ (P Q : Queue → Type 0) (others : (q : Queue) → q.user ≢ user → P q → Q q) (own : (q : Queue) → q.user ≡ user → P q → Q (longer q)) where
+  module _ (P Q : Queue → Type 0) (others : (q : Queue) → q.user ≢ user → P q → Q q)
+      (own : (q : Queue) → q.user ≡ user → P q → Q (longer q)) where
     all-others : (qs : List Queue) → AllByRecursion (λ y. y ≢ user) (users qs) → All P qs → All Q qs
     all-others [] ne h = All-nil Q
     all-others (q ∷ qs) ne h = All-cons Q q qs (others q ne.0 (All-head P q qs h)) (all-others qs ne.1 (All-tail P q qs h))
 
-    pub enqueued-all : (queues : List Queue) → IsStrictlySortedBy order (users queues) → (list_any (bytes_eq user) (users queues) ≡ false → Q new) → All P queues → All Q (enqueued priority user place queues)
+    pub enqueued-all : (queues : List Queue) → IsStrictlySortedBy order (users queues) → (list_any (bytes_eq user) (users queues) ≡ false → Q new)
+        → All P queues → All Q (enqueued priority user place queues)
     enqueued-all [] sorted fresh h = All-cons Q new [] (fresh refl) (All-nil Q)
     enqueued-all (q ∷ qs) sorted fresh h =
         by (order user q.user) refl
@@ -191,7 +175,8 @@ module _ (priority : List ℕ → ℕ) (user : List ℕ) (place : ℕ) where
         by Greater e deeper =
             let less = turned user q.user Greater Less e refl in
             let ne : q.user ≢ user = λ same. apart q.user user less (sym same) in
-            All-cons Q q (enqueued priority user place qs) (others q ne head) (deeper (λ none. fresh (ap (λ b. b || list_any (bytes_eq user) (users qs)) (not-named q.user ne) ∙ none)))
+            All-cons Q q (enqueued priority user place qs) (others q ne head)
+            (deeper (λ none. fresh (ap (λ b. b || list_any (bytes_eq user) (users qs)) (not-named q.user ne) ∙ none)))
 
 -- ---- all jobs
 
@@ -199,7 +184,7 @@ or-false : (a b : Bool) → a || b ≡ false → (a ≡ false) × (b ≡ false)
 or-false true b e = absurd (cc)
 or-false false b e = (refl, e)
 
-slice_get_is : {A : Type 0} (xs : List A) (i : ℕ) (d : A) → i < length xs → slice_get xs i ≡ Some (get_or xs i d)
+pub slice_get_is : {A : Type 0} (xs : List A) (i : ℕ) (d : A) → i < length xs → slice_get xs i ≡ Some (get_or xs i d)
 slice_get_is [] i d within = absurd (omega (arith, within))
 slice_get_is (x ∷ xs) zero d within = refl
 slice_get_is (x ∷ xs) (suc i) d within = slice_get_is xs i d (omega (arith, within))
@@ -222,11 +207,13 @@ filter-more : (p : ℕ → Bool) (xs ys : List ℕ) → filter p (xs ++ ys) ≡ 
 filter-more p [] ys = refl
 filter-more p (x ∷ xs) ys = by (p x) (filter-more p xs ys)
   where
-    by : (b : Bool) → filter p (xs ++ ys) ≡ filter p xs ++ filter p ys → cond b (x ∷ filter p (xs ++ ys)) (filter p (xs ++ ys)) ≡ cond b (x ∷ filter p xs) (filter p xs) ++ filter p ys
+    by : (b : Bool) → filter p (xs ++ ys) ≡ filter p xs ++ filter p ys
+        → cond b (x ∷ filter p (xs ++ ys)) (filter p (xs ++ ys)) ≡ cond b (x ∷ filter p xs) (filter p xs) ++ filter p ys
     by true rest = ap (λ l. x ∷ l) rest
     by false rest = rest
 
-none-before : {A : Type 0} (test : A → Bool) (xs : List A) (n : ℕ) → list_any test (take n xs) ≡ false → (j : ℕ) → j < n → option_map_or test (slice_get xs j) false ≡ false
+none-before : {A : Type 0} (test : A → Bool) (xs : List A) (n : ℕ) → list_any test (take n xs) ≡ false → (j : ℕ) → j < n
+    → option_map_or test (slice_get xs j) false ≡ false
 none-before test [] n none j low = refl
 none-before test (x ∷ xs) zero none j low = absurd (omega (arith, low))
 none-before test (x ∷ xs) (suc n) none zero low = (or-false (test x) (list_any test (take n xs)) none).0
@@ -240,11 +227,21 @@ pub record QueuesTo (market : Market ℕ) (n : ℕ) (queues : List Queue) : Type
 
 module _ (market : Market ℕ) where
   pub queues-none : QueuesTo market 0 []
-  queues-none = record { users = refl; numbers = All-nil (λ (q : Queue). q.number ≡ market.priority q.user); places = All-nil (λ (q : Queue). q.places ≡ filter (is_of market q.user) (range_with_len 0 0)) }
+  queues-none =
+      record {
+        users =
+            refl;
+        numbers =
+            All-nil (λ (q : Queue). q.number ≡ market.priority q.user);
+        places =
+            All-nil (λ (q : Queue). q.places ≡ filter (is_of market q.user) (range_with_len 0 0));
+      }
 
   module _ (n : ℕ) (queues : List Queue) (so_far : QueuesTo market n queues) where
     pub queues-sorted : IsStrictlySortedBy (user_order market.priority) (map (λ (q : Queue). q.user) queues)
-    queues-sorted = subst (IsStrictlySortedBy (user_order market.priority)) (sym so_far.users) (from-sorted market.priority [] (take n market.jobs) (none-sorted (user_order market.priority)))
+    queues-sorted =
+        subst (IsStrictlySortedBy (user_order market.priority)) (sym so_far.users)
+        (from-sorted market.priority [] (take n market.jobs) (none-sorted (user_order market.priority)))
 
     pub queues-all : length market.jobs ≤ n → n ≤ length market.jobs → AreQueues market queues
     queues-all low high =
@@ -257,9 +254,11 @@ module _ (market : Market ℕ) where
 
     module _ (user : List ℕ) (d : Waiting) (within : n < length market.jobs) (is : (get_or market.jobs n d).user ≡ user) where
       here : (other : List ℕ) → is_of market other n ≡ bytes_eq other user
-      here other = ap (λ o. option_map_or (λ (job : Waiting). bytes_eq other job.user) o false) (slice_get_is market.jobs n d within) ∙ ap (bytes_eq other) is
+      here other =
+          ap (λ o. option_map_or (λ (job : Waiting). bytes_eq other job.user) o false) (slice_get_is market.jobs n d within) ∙ ap (bytes_eq other) is
 
-      more : (other : List ℕ) (b : Bool) → bytes_eq other user ≡ b → filter (is_of market other) (range_with_len 0 (n + 1)) ≡ filter (is_of market other) (range_with_len 0 n) ++ cond b (n ∷ []) []
+      more : (other : List ℕ) (b : Bool) → bytes_eq other user ≡ b
+          → filter (is_of market other) (range_with_len 0 (n + 1)) ≡ filter (is_of market other) (range_with_len 0 n) ++ cond b (n ∷ []) []
       more other b e =
           ap (filter (is_of market other)) (range-more 0 n)
           ∙ filter-more (is_of market other) (range_with_len 0 n) ((0 + n) ∷ [])
@@ -283,7 +282,9 @@ module _ (market : Market ℕ) where
       fresh none =
           let all : list_any (λ (job : Waiting). bytes_eq user job.user) (take n market.jobs) || false ≡ false =
           sym (from-among market.priority user [] (take n market.jobs)) ∙ ap (list_any (bytes_eq user)) (sym so_far.users) ∙ none in
-          let each = none-before (λ (job : Waiting). bytes_eq user job.user) market.jobs n ((or-false (list_any (λ (job : Waiting). bytes_eq user job.user) (take n market.jobs)) false all).0) in
+          let each =
+          none-before (λ (job : Waiting). bytes_eq user job.user) market.jobs n
+          ((or-false (list_any (λ (job : Waiting). bytes_eq user job.user) (take n market.jobs)) false all).0) in
           sym (more user true (same-bytes market.priority user user refl)
           ∙ ap (λ l. l ++ n ∷ []) (filter-none (is_of market user) 0 n (λ j low high. each j (omega (arith, high)))))
 

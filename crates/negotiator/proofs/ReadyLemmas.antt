@@ -1,5 +1,6 @@
 -- What searches stand on stays, through a mark and through an offer.
-use Rattle.std.proofs.Common.{◌≡◌, ◌≤◌, ℕ, Bool, true, false, List, All, length, replicate, set, None, ap, sym, ◌∙◌, subst, ◌⊎◌, inl, inr, get_or-set_other}
+use Rattle.std.proofs.Common.{◌≡◌, ◌≤◌, ℕ, Bool, true, false, List, All, length, replicate, set, None, ap, sym, ◌∙◌, subst, ◌⊎◌, inl}
+use Rattle.std.proofs.Common.{inr, get_or-set_other}
 use Rattle.std.proofs.lemmas.Bool.{cases_eq}
 use Rattle.std.proofs.lemmas.List.{length-replicate, length-set}
 use Rattle.ad_tree.specs.Ad.{ad_frames}
@@ -18,8 +19,10 @@ use Rattle.negotiator.specs.Scenes.{IsReady, settings_in, stock_in}
 use Rattle.negotiator.proofs.BudgetLemmas.{none-marked}
 use Rattle.negotiator.proofs.JobLemmas.{all-later, found-later, length-later, stored-later}
 
-pub ready-start : (scene : Scene) (jobs : List Job) (failed : List Bool) → IsIndex scene.index.now (rows_of (stock_in scene)) → AreStored (stock_in scene) (holder_of (settings_in scene) jobs)
-    → All (λ (job : Job). AreOwn (ad_frames job.request.ad) job.request.ports) jobs → length jobs ≤ jobs_limit → failed ≡ replicate (length jobs) false → IsReady scene jobs failed
+pub ready-start : (scene : Scene) (jobs : List Job) (failed : List Bool) → IsIndex scene.index.now (rows_of (stock_in scene))
+    → AreStored (stock_in scene) (holder_of (settings_in scene) jobs)
+    → All (λ (job : Job). AreOwn (ad_frames job.request.ad) job.request.ports) jobs → length jobs ≤ jobs_limit
+    → failed ≡ replicate (length jobs) false → IsReady scene jobs failed
 ready-start scene jobs failed index stored own few none = record {
   index = index;
   stored = stored;
@@ -50,6 +53,7 @@ module _ (scene : Scene) (jobs : List Job) (failed : List Bool) (ready : IsReady
     known = λ k marked. by k marked (cases_eq k i);
   }
     where
-      by : (k : ℕ) → is_marked (set failed i true) k ≡ true → (k ≡ i) ⊎ (k ≡ i → ⊥) → found scene.moment (stock_in scene) (settings_in scene) jobs k ≡ None
+      by : (k : ℕ) → is_marked (set failed i true) k ≡ true → (k ≡ i) ⊎ (k ≡ i → ⊥)
+          → found scene.moment (stock_in scene) (settings_in scene) jobs k ≡ None
       by k marked (inl e) = ap (found scene.moment (stock_in scene) (settings_in scene) jobs) e ∙ none
       by k marked (inr ne) = ready.known k (sym (get_or-set_other failed i k true false ne) ∙ marked)

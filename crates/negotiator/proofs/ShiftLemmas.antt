@@ -1,5 +1,6 @@
 -- The market of a pool once some offers are made, and the market of jobs that stand so.
-use Rattle.std.proofs.Common.{◌≡◌, ◌==◌, ℕ, zero, suc, Bool, true, false, not, ◌&&◌, ◌||◌, List, [], ◌∷◌, ◌++◌, All, filter, fold, get_or, length, map, slice_get, slice_set, Option, None, Some, bytes_eq, refl, ap, sym, ◌∙◌, arith, append_assoc}
+use Rattle.std.proofs.Common.{◌≡◌, ◌==◌, ℕ, zero, suc, Bool, true, false, not, ◌&&◌, ◌||◌, List, [], ◌∷◌, ◌++◌, All, filter, fold}
+use Rattle.std.proofs.Common.{get_or, length, map, slice_get, slice_set, Option, None, Some, bytes_eq, refl, ap, sym, ◌∙◌, arith, append_assoc}
 use Rattle.std.specs.Prelude.{option_map}
 use Rattle.std.specs.BTreeSet.{insert_key}
 use Rattle.std.specs.List.{range_with_len}
@@ -15,10 +16,11 @@ use Rattle.claim_table.specs.Jobs.{wanted, with_standing}
 use Rattle.claim_table.proofs.ListLemmas.{map-set_same}
 use Rattle.negotiator.specs.declared.queues.Queue.{Queue}
 use Rattle.negotiator.specs.Budget.{is_idle_at}
-use Rattle.negotiator.specs.Cycle.{Market, Offer, PlainSpin, PlainTurn, Waiting, all_users, is_given, is_of, is_waiting, places, spin, turn, user_order, waiting_count, wants_of}
+use Rattle.negotiator.specs.Cycle.{Market, Offer, PlainSpin, PlainTurn, Waiting, all_users, is_given, is_of, is_waiting, places, spin, turn, waiting_count}
+use Rattle.negotiator.specs.Cycle.{wants_of}
 use Rattle.negotiator.specs.Mapped.{offer_mapped, turn_mapped}
 use Rattle.negotiator.specs.Markets.{found, free_among, is_idle, market_of, waiting_of, with_offers}
-use Rattle.claim_table.specs.Priorities.{Setting, priority_of}
+use Rattle.claim_table.specs.Priorities.{Setting, priority_of, user_order}
 use Rattle.negotiator.specs.Queues.{AreQueues}
 use Rattle.negotiator.proofs.AlikeLemmas.{IsAlike, count-same, filter-same, spin-alike, turn-alike}
 use Rattle.negotiator.proofs.CycleLemmas.{any-append}
@@ -30,7 +32,8 @@ module _ {A : Type 0} (f : Job → A) (same : (job : Job) (s : Stage) → f (rec
   pub kept-one : (jobs : List Job) (i : ℕ) (s : Stage) → map f (with_standing jobs i s) ≡ map f jobs
   kept-one jobs i s = by (slice_get jobs i) refl
     where
-      by : (o : Option Job) → slice_get jobs i ≡ o → map f (option_map_or (λ (job : Job). slice_set jobs i (record job { standing = s })) o jobs) ≡ map f jobs
+      by : (o : Option Job) → slice_get jobs i ≡ o
+          → map f (option_map_or (λ (job : Job). slice_set jobs i (record job { standing = s })) o jobs) ≡ map f jobs
       by None at = refl
       by (Some job) at = map-set_same f jobs i job (record job { standing = s }) at (same job s)
 
@@ -45,7 +48,8 @@ offers-ahead (o ∷ os) rest jobs = offers-ahead os rest (with_standing jobs o.j
 out-of-range : (jobs : List Job) (i : ℕ) → slice_get jobs i ≡ None → is_idle_at jobs i ≡ false
 out-of-range jobs i e = ap (λ o. option_map_or (λ (job : Job). is_idle job.standing) o false) e
 
-idle-one : (jobs : List Job) (i : ℕ) (slots : List ℕ) (k : ℕ) → is_idle_at (with_standing jobs i (Stage.Matched slots)) k ≡ (is_idle_at jobs k && not (i == k))
+idle-one : (jobs : List Job) (i : ℕ) (slots : List ℕ) (k : ℕ)
+    → is_idle_at (with_standing jobs i (Stage.Matched slots)) k ≡ (is_idle_at jobs k && not (i == k))
 idle-one jobs i slots k = by (slice_get jobs i) refl
   where
     none : (b : Bool) → i == k ≡ b → is_idle_at jobs i ≡ false → is_idle_at jobs k ≡ (is_idle_at jobs k && not b)
@@ -59,7 +63,9 @@ idle-one jobs i slots k = by (slice_get jobs i) refl
         by_bool true = refl
         by_bool false = refl
 
-    by : (o : Option Job) → slice_get jobs i ≡ o → is_idle_at (option_map_or (λ (job : Job). slice_set jobs i (record job { standing = Stage.Matched slots })) o jobs) k ≡ (is_idle_at jobs k && not (i == k))
+    by : (o : Option Job) → slice_get jobs i ≡ o
+        → is_idle_at (option_map_or (λ (job : Job). slice_set jobs i (record job { standing = Stage.Matched slots })) o jobs) k
+        ≡ (is_idle_at jobs k && not (i == k))
     by None at = none (i == k) refl (out-of-range jobs i at)
     by (Some job) at = idle-set jobs i k job (record job { standing = Stage.Matched slots }) at refl
 
@@ -93,26 +99,34 @@ module _ (moment : ℕ) (stock : Stock) (settings : List Setting) where
       by (j ∷ js) zero = refl
       by (j ∷ js) (suc k) = by js k
 
-  of-is : (jobs : List Job) (user : List ℕ) (k : ℕ) → is_of (market jobs) user k ≡ option_map_or (bytes_eq user) (slice_get (map (λ (job : Job). job.user) jobs) k) false
+  of-is : (jobs : List Job) (user : List ℕ) (k : ℕ)
+      → is_of (market jobs) user k ≡ option_map_or (bytes_eq user) (slice_get (map (λ (job : Job). job.user) jobs) k) false
   of-is jobs user k = by jobs k
     where
-      by : (js : List Job) (k : ℕ) → option_map_or (λ (w : Waiting). bytes_eq user w.user) (slice_get (map waiting_of js) k) false ≡ option_map_or (bytes_eq user) (slice_get (map (λ (job : Job). job.user) js) k) false
+      by : (js : List Job) (k : ℕ)
+          → option_map_or (λ (w : Waiting). bytes_eq user w.user) (slice_get (map waiting_of js) k) false
+          ≡ option_map_or (bytes_eq user) (slice_get (map (λ (job : Job). job.user) js) k) false
       by [] k = refl
       by (j ∷ js) zero = refl
       by (j ∷ js) (suc k) = by js k
 
-  pub wants-is : (jobs : List Job) (k : ℕ) → wants_of (market jobs) k ≡ option_map_or (λ (n : ℕ). n) (slice_get (map (λ (job : Job). wanted job.request) jobs) k) 0
+  pub wants-is : (jobs : List Job) (k : ℕ)
+      → wants_of (market jobs) k ≡ option_map_or (λ (n : ℕ). n) (slice_get (map (λ (job : Job). wanted job.request) jobs) k) 0
   wants-is jobs k = by jobs k
     where
-      by : (js : List Job) (k : ℕ) → option_map_or (λ (w : Waiting). w.wants) (slice_get (map waiting_of js) k) 0 ≡ option_map_or (λ (n : ℕ). n) (slice_get (map (λ (job : Job). wanted job.request) js) k) 0
+      by : (js : List Job) (k : ℕ)
+          → option_map_or (λ (w : Waiting). w.wants) (slice_get (map waiting_of js) k) 0
+          ≡ option_map_or (λ (n : ℕ). n) (slice_get (map (λ (job : Job). wanted job.request) js) k) 0
       by [] k = refl
       by (j ∷ js) zero = refl
       by (j ∷ js) (suc k) = by js k
 
-  users-is : (jobs : List Job) → all_users (market jobs) ≡ fold (λ us u. insert_key (user_order (λ user. priority_of user settings)) us u) [] (map (λ (job : Job). job.user) jobs)
+  users-is : (jobs : List Job)
+      → all_users (market jobs) ≡ fold (λ us u. insert_key (user_order (λ user. priority_of user settings)) us u) [] (map (λ (job : Job). job.user) jobs)
   users-is jobs = by [] jobs
     where
-      by : (us : List (List ℕ)) (js : List Job) → fold (λ us (w : Waiting). insert_key (user_order (λ user. priority_of user settings)) us w.user) us (map waiting_of js)
+      by : (us : List (List ℕ)) (js : List Job)
+          → fold (λ us (w : Waiting). insert_key (user_order (λ user. priority_of user settings)) us w.user) us (map waiting_of js)
           ≡ fold (λ us u. insert_key (user_order (λ user. priority_of user settings)) us u) us (map (λ (job : Job). job.user) js)
       by us [] = refl
       by us (j ∷ js) = by (insert_key (user_order (λ user. priority_of user settings)) us j.user) js
@@ -138,7 +152,8 @@ module _ (moment : ℕ) (stock : Stock) (settings : List Setting) where
     same-users : all_users (market jobs) ≡ all_users (market behind)
     same-users =
         users-is jobs
-        ∙ ap (λ us. fold (λ us u. insert_key (user_order (λ user. priority_of user settings)) us u) [] us) (sym (kept-all (λ (job : Job). job.user) (λ job s. refl) base jobs))
+        ∙ ap (λ us. fold (λ us u. insert_key (user_order (λ user. priority_of user settings)) us u) [] us)
+        (sym (kept-all (λ (job : Job). job.user) (λ job s. refl) base jobs))
         ∙ sym (users-is behind)
 
     same-resources : (o : Option (List ℕ)) → o ≡ option_map (map (λ (slot : ℕ). slot)) o
@@ -147,7 +162,9 @@ module _ (moment : ℕ) (stock : Stock) (settings : List Setting) where
 
     shifted : IsAlike (λ (slot : ℕ). slot) (market behind) (market jobs) (λ made. base ++ made) (λ made. Unit {0})
     shifted = record {
-      ahead = λ made o. sym (append_assoc base made (o ∷ [])) ∙ ap (λ slots. let p : Offer ℕ = record { job = o.job; resources = slots } in base ++ made ++ p ∷ []) (sym (map-id o.resources));
+      ahead =
+          λ made o. sym (append_assoc base made (o ∷ [])) ∙ ap (λ slots. let p : Offer ℕ =
+          record { job = o.job; resources = slots } in base ++ made ++ p ∷ []) (sym (map-id o.resources));
       size = size;
       of = same-of;
       waiting = λ made k.
@@ -163,7 +180,8 @@ module _ (moment : ℕ) (stock : Stock) (settings : List Setting) where
       users = same-users;
       priority = λ user. refl;
       free = λ made p. ap (free_among stock) (offers-ahead base made jobs);
-      find = λ made k p. ap (λ js. found moment stock settings js k) (offers-ahead base made jobs) ∙ same-resources (found moment stock settings (with_offers made behind) k);
+      find = λ made k p. ap (λ js. found moment stock settings js k) (offers-ahead base made jobs)
+          ∙ same-resources (found moment stock settings (with_offers made behind) k);
       step = λ user made k slots p w f. tt;
     }
       where
@@ -181,11 +199,13 @@ module _ (moment : ℕ) (stock : Stock) (settings : List Setting) where
     turns-id : (ts : List (PlainTurn ℕ)) → map (turn_mapped (λ (slot : ℕ). slot)) ts ≡ ts
     turns-id [] = refl
     turns-id (t ∷ ts) =
-        ap (λ os. let u : PlainTurn ℕ = record { user = t.user; slice = t.slice; offers = os } in u ∷ map (turn_mapped (λ (slot : ℕ). slot)) ts) (offers-id t.offers)
+        ap (λ os. let u : PlainTurn ℕ = record { user = t.user; slice = t.slice; offers = os } in u ∷ map (turn_mapped (λ (slot : ℕ). slot)) ts)
+        (offers-id t.offers)
         ∙ ap (λ l. t ∷ l) (turns-id ts)
 
     -- a turn among jobs that stand so is the turn once the offers are made
-    pub shift-turn : (user : List ℕ) (is : List ℕ) (left : ℕ) (given : Bool) → turn (market behind) user is left given [] ≡ turn (market jobs) user is left given base
+    pub shift-turn : (user : List ℕ) (is : List ℕ) (left : ℕ) (given : Bool)
+        → turn (market behind) user is left given [] ≡ turn (market jobs) user is left given base
     shift-turn user is left given =
         sym (ap (turn (market jobs) user is left given) (sym (append-nil base))
         ∙ (turn-alike (λ (slot : ℕ). slot) (market behind) (market jobs) (λ made. base ++ made) (λ made. Unit {0}) shifted user is left given [] tt).same
@@ -202,7 +222,8 @@ module _ (moment : ℕ) (stock : Stock) (settings : List Setting) where
         ∙ (spin-alike (λ (slot : ℕ). slot) (market behind) (market jobs) (λ made. base ++ made) (λ made. Unit {0}) shifted [] tt).same
         ∙ ap (λ ts. let s : PlainSpin ℕ = record { free = (spin (market behind) []).free; turns = ts } in s) (turns-id (spin (market behind) []).turns))
 
-    pub shift-own : (user : List ℕ) → filter (is_of (market behind) user) (places (market behind).jobs) ≡ filter (is_of (market jobs) user) (places (market jobs).jobs)
+    pub shift-own : (user : List ℕ)
+        → filter (is_of (market behind) user) (places (market behind).jobs) ≡ filter (is_of (market jobs) user) (places (market jobs).jobs)
     shift-own user =
         ap (λ n. filter (is_of (market behind) user) (range_with_len 0 n)) (sym size)
         ∙ filter-same (is_of (market behind) user) (is_of (market jobs) user) (λ k. sym (same-of user k)) (places (market jobs).jobs)
@@ -217,7 +238,8 @@ module _ (moment : ℕ) (stock : Stock) (settings : List Setting) where
       places = moved queues are.places;
     }
       where
-        moved : (qs : List Queue) → All (λ (q : Queue). q.places ≡ filter (is_of (market jobs) q.user) (places (market jobs).jobs)) qs → All (λ (q : Queue). q.places ≡ filter (is_of (market behind) q.user) (places (market behind).jobs)) qs
+        moved : (qs : List Queue) → All (λ (q : Queue). q.places ≡ filter (is_of (market jobs) q.user) (places (market jobs).jobs)) qs
+            → All (λ (q : Queue). q.places ≡ filter (is_of (market behind) q.user) (places (market behind).jobs)) qs
         moved [] h = All-nil (λ (q : Queue). q.places ≡ filter (is_of (market behind) q.user) (places (market behind).jobs))
         moved (q ∷ qs) h =
             All-cons (λ (q : Queue). q.places ≡ filter (is_of (market behind) q.user) (places (market behind).jobs)) q qs
@@ -226,7 +248,8 @@ module _ (moment : ℕ) (stock : Stock) (settings : List Setting) where
 
 -- ---- a job as it waits
 
-pub user-of : (jobs : List Job) (i : ℕ) (user : List ℕ) (d : Waiting) → option_map (λ (job : Job). job.user) (slice_get jobs i) ≡ Some user → (get_or (map waiting_of jobs) i d).user ≡ user
+pub user-of : (jobs : List Job) (i : ℕ) (user : List ℕ) (d : Waiting) → option_map (λ (job : Job). job.user) (slice_get jobs i) ≡ Some user
+    → (get_or (map waiting_of jobs) i d).user ≡ user
 user-of [] i user d e = absurd (none-some user e)
 user-of (j ∷ jobs) zero user d e = same_Some j.user user e
 user-of (j ∷ jobs) (suc i) user d e = user-of jobs i user d e

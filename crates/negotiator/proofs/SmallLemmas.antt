@@ -14,10 +14,12 @@ use Rattle.negotiator.proofs.JobLemmas.{all-same}
 use Rattle.negotiator.proofs.ShiftLemmas.{kept-all}
 
 -- the request of a small job is small
-pub small-job : (jobs : List Job) (i : ℕ) (request : Request) → option_map (λ (job : Job). job.request) (slice_get jobs i) ≡ Some request → AreSmallJobs jobs → IsSmall (ad_frames request.ad)
+pub small-job : (jobs : List Job) (i : ℕ) (request : Request) → option_map (λ (job : Job). job.request) (slice_get jobs i) ≡ Some request
+    → AreSmallJobs jobs → IsSmall (ad_frames request.ad)
 small-job [] i request at small = absurd (none-some request at)
 small-job (j ∷ jobs) zero request at small =
-    subst (λ (r : Request). IsSmall (ad_frames r.ad)) (same_Some j.request request at) (All-head (λ (job : Job). IsSmall (ad_frames job.request.ad)) j jobs small)
+    subst (λ (r : Request). IsSmall (ad_frames r.ad)) (same_Some j.request request at)
+    (All-head (λ (job : Job). IsSmall (ad_frames job.request.ad)) j jobs small)
 small-job (j ∷ jobs) (suc i) request at small = small-job jobs i request at (All-tail (λ (job : Job). IsSmall (ad_frames job.request.ad)) j jobs small)
 
 -- jobs are small once offers are made to them

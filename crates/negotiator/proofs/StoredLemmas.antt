@@ -1,5 +1,6 @@
 -- What is offered in a cycle is what searches find, and so it is in the store.
-use Rattle.std.proofs.Common.{◌≡◌, ◌≤◌, ◌<◌, ◌+◌, ℕ, zero, suc, Bool, true, false, if◌then◌else◌, List, [], ◌∷◌, ◌++◌, All, Contains, length, slice_get, Option, None, Some, refl, sym, subst, arith}
+use Rattle.std.proofs.Common.{◌≡◌, ◌≤◌, ◌<◌, ◌+◌, ℕ, zero, suc, Bool, true, false, if◌then◌else◌, List, [], ◌∷◌, ◌++◌}
+use Rattle.std.proofs.Common.{All, Contains, length, slice_get, Option, None, Some, refl, sym, subst, arith}
 use Rattle.std.specs.Prelude.{IfSome, option_and_then, option_map}
 use Rattle.std.specs.List.{cons_option}
 use Rattle.std.specs.Ordering.{is_lt}
@@ -16,7 +17,8 @@ use Rattle.dock_match.specs.Pool.{Pool, slot_at}
 use Rattle.bilateral_match.specs.declared.member.Member.{Member}
 use Rattle.bilateral_match.specs.Members.{as_member, best, earlier, first_of, is_member, member_order, members, members_from}
 use Rattle.claim_table.specs.declared.job.Job.{Job}
-use Rattle.negotiator.specs.Cycle.{Market, Offer, cycle_of, is_empty, offers_in, offers_of, places, shares_of, spin, spins_within, turn, turns, users_of, waiting_count}
+use Rattle.negotiator.specs.Cycle.{Market, Offer, cycle_of, is_empty, offers_in, offers_of, places, shares_of, spin, spins_within, turn, turns, users_of}
+use Rattle.negotiator.specs.Cycle.{waiting_count}
 use Rattle.negotiator.specs.Markets.{found, found_by, found_for, market_of, pool_for, with_offers}
 use Rattle.claim_table.specs.Priorities.{Setting, priority_of}
 use Rattle.negotiator.proofs.CycleLemmas.{offer, offers-kept, turn-by}
@@ -24,7 +26,8 @@ use Rattle.negotiator.proofs.GangLemmas.{gang-all, slots-stored}
 
 -- ---- in a cycle
 
-module _ {R : Type 0} (market : Market R) (P : List R → Type 0) (finds : (made : List (Offer R)) (i : ℕ) (rs : List R) → market.find made i ≡ Some rs → P rs) where
+module _ {R : Type 0} (market : Market R) (P : List R → Type 0)
+    (finds : (made : List (Offer R)) (i : ℕ) (rs : List R) → market.find made i ≡ Some rs → P rs) where
   abbrev Q : Offer R → Type 0
   Q o = P o.resources
 
@@ -41,7 +44,8 @@ module _ {R : Type 0} (market : Market R) (P : List R → Type 0) (finds : (made
   turns-all (user ∷ users) [] made = All-nil Q
   turns-all (user ∷ users) (slice ∷ slices) made =
       let os = turn market user (places market.jobs) slice false made in
-      All-append Q os (offers_in (turns market users slices (made ++ os))) (turn-all user (places market.jobs) slice false made) (turns-all users slices (made ++ os))
+      All-append Q os (offers_in (turns market users slices (made ++ os))) (turn-all user (places market.jobs) slice false made)
+      (turns-all users slices (made ++ os))
 
   spin-all : (made : List (Offer R)) → All Q (offers_in (spin market made).turns)
   spin-all made =
@@ -55,7 +59,9 @@ module _ {R : Type 0} (market : Market R) (P : List R → Type 0) (finds : (made
       by : (b : Bool) → All Q (offers_of (spins_within market n (made ++ offers_in (spin market made).turns)))
           → All Q (offers_of (spin market made ∷ (if b then [] else spins_within market n (made ++ offers_in (spin market made).turns))))
       by true rest = All-append Q (offers_in (spin market made).turns) [] (spin-all made) (All-nil Q)
-      by false rest = All-append Q (offers_in (spin market made).turns) (offers_of (spins_within market n (made ++ offers_in (spin market made).turns))) (spin-all made) rest
+      by false rest =
+          All-append Q (offers_in (spin market made).turns) (offers_of (spins_within market n (made ++ offers_in (spin market made).turns))) (spin-all made)
+          rest
 
   pub cycle-all : All Q (offers_of (cycle_of market))
   cycle-all = spins-all (suc (waiting_count market [])) []
@@ -85,7 +91,8 @@ module _ (pool : Pool) (request : List Frame) (number : ℕ) where
   members-below n k [] fits = All-nil (Below n)
   members-below n k (a ∷ ads) fits = by (is_member pool request number k a) (members-below n (suc k) ads (omega (arith, fits)))
     where
-      by : (b : Bool) → All (Below n) (members_from pool request number (suc k) ads) → All (Below n) (cons_option (if b then Some (as_member pool request k a) else None) (members_from pool request number (suc k) ads))
+      by : (b : Bool) → All (Below n) (members_from pool request number (suc k) ads)
+          → All (Below n) (cons_option (if b then Some (as_member pool request k a) else None) (members_from pool request number (suc k) ads))
       by true rest = All-cons (Below n) (as_member pool request k a) (members_from pool request number (suc k) ads) (omega (arith, fits)) rest
       by false rest = rest
 
@@ -96,22 +103,30 @@ module _ (moment : ℕ) (stock : Stock) (settings : List Setting) (beside : leng
   at-place : (place : ℕ) → place < length stock.slots → Contains stock.slots (slot_at stock place)
   at-place place within = (place, within, get_or_default stock.slots place (slot_at stock place) 0 within)
 
-  found-by : (jobs : List Job) (number : ℕ) (request : List Frame) (ports : List Port) (slots : List ℕ) → found_by stock (pool_for moment stock settings jobs) number request ports ≡ Some slots → All (Contains stock.slots) slots
-  found-by jobs number request [] slots e = by (best (pool_for moment stock settings jobs) request number) (best-below (pool_for moment stock settings jobs) request number (length stock.slots) beside) e
+  found-by : (jobs : List Job) (number : ℕ) (request : List Frame) (ports : List Port) (slots : List ℕ)
+      → found_by stock (pool_for moment stock settings jobs) number request ports ≡ Some slots → All (Contains stock.slots) slots
+  found-by jobs number request [] slots e =
+      by (best (pool_for moment stock settings jobs) request number)
+      (best-below (pool_for moment stock settings jobs) request number (length stock.slots) beside) e
     where
-      by : (o : Option Member) → IfSome o (λ m. m.place < length stock.slots) → option_map (λ slot. slot ∷ []) (option_map (λ (m : Member). slot_at stock m.place) o) ≡ Some slots → All (Contains stock.slots) slots
+      by : (o : Option Member) → IfSome o (λ m. m.place < length stock.slots)
+          → option_map (λ slot. slot ∷ []) (option_map (λ (m : Member). slot_at stock m.place) o) ≡ Some slots → All (Contains stock.slots) slots
       by None h e = absurd (none-some slots e)
       by (Some m) h e =
-          subst (All (Contains stock.slots)) (same_Some (slot_at stock m.place ∷ []) slots e) (All-cons (Contains stock.slots) (slot_at stock m.place) [] (at-place m.place h) (All-nil (Contains stock.slots)))
+          subst (All (Contains stock.slots)) (same_Some (slot_at stock m.place ∷ []) slots e)
+          (All-cons (Contains stock.slots) (slot_at stock m.place) [] (at-place m.place h) (All-nil (Contains stock.slots)))
   found-by jobs number request (port ∷ ports) slots e =
       subst (λ o. IfSome o (All (Contains stock.slots))) e
-      (gang-all moment stock settings jobs request (port ∷ ports) (All (Contains stock.slots)) (λ places is. slots-stored moment stock settings jobs request (port ∷ ports) places is beside)
+      (gang-all moment stock settings jobs request (port ∷ ports) (All (Contains stock.slots))
+      (λ places is. slots-stored moment stock settings jobs request (port ∷ ports) places is beside)
       (found_by stock (pool_for moment stock settings jobs) number request (port ∷ ports)) refl)
 
   pub found-stored : (jobs : List Job) (i : ℕ) (slots : List ℕ) → found moment stock settings jobs i ≡ Some slots → All (Contains stock.slots) slots
   found-stored jobs i slots e = by (slice_get jobs i) e
     where
-      by : (o : Option Job) → option_and_then (λ (job : Job). found_for moment stock settings jobs (priority_of job.user settings) job.request) o ≡ Some slots → All (Contains stock.slots) slots
+      by : (o : Option Job)
+          → option_and_then (λ (job : Job). found_for moment stock settings jobs (priority_of job.user settings) job.request) o ≡ Some slots
+          → All (Contains stock.slots) slots
       by None e = absurd (none-some slots e)
       by (Some job) e = found-by jobs (priority_of job.user settings) (ad_frames job.request.ad) job.request.ports slots e
 

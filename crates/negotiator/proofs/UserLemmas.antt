@@ -1,5 +1,6 @@
 -- The users in order: each once, and those that have a job that waits.
-use Rattle.std.proofs.Common.{◌≡◌, ℕ, zero, suc, Bool, true, false, ◌&&◌, ◌||◌, cond, List, [], ◌∷◌, filter, fold, bytes_eq, Less, Equal, Greater, refl, ap, sym, ◌∙◌}
+use Rattle.std.proofs.Common.{◌≡◌, ℕ, zero, suc, Bool, true, false, ◌&&◌, ◌||◌, cond, List, [], ◌∷◌, filter, fold, bytes_eq, Less, Equal}
+use Rattle.std.proofs.Common.{Greater, refl, ap, sym, ◌∙◌}
 use Rattle.std.specs.BTreeSet.{insert_key}
 use Rattle.std.specs.Cmp.{IsTotalOrder}
 use Rattle.std.specs.Cmp.Lexicographic.{slice_cmp}
@@ -12,7 +13,8 @@ use Rattle.std.specs.declared.cmp.Ordering.{Ordering}
 use Rattle.std.proofs.lemmas.Cmp.{nat_cmp_total, nat_list_cmp_total, on_total, then_total}
 use Rattle.std.proofs.lemmas.Map.Lookups.{exact_bytes}
 use Rattle.std.proofs.lemmas.Slice.Eq.{bytes_eq-Decides}
-use Rattle.negotiator.specs.Cycle.{Market, Offer, Waiting, all_users, is_waiting, places, user_order, users_of, waits}
+use Rattle.claim_table.specs.Priorities.{user_order}
+use Rattle.negotiator.specs.Cycle.{Market, Offer, Waiting, all_users, is_waiting, places, users_of, waits}
 
 -- ---- lists in order
 
@@ -29,11 +31,13 @@ module _ {K : Type 0} (R : K → K → Ordering) (order : IsTotalOrder R) where
   turned : (a b : K) (r s : Ordering) → R a b ≡ r → ordering_reverse r ≡ s → R b a ≡ s
   turned a b r s e f = order.antisymm b a ∙ ap ordering_reverse e ∙ f
 
-  insert-behind : (x k : K) (ks : List K) → R x k ≡ Less → AllByRecursion (λ y. R x y ≡ Less) ks → AllByRecursion (λ y. R x y ≡ Less) (insert_key R ks k)
+  insert-behind : (x k : K) (ks : List K) → R x k ≡ Less → AllByRecursion (λ y. R x y ≡ Less) ks
+      → AllByRecursion (λ y. R x y ≡ Less) (insert_key R ks k)
   insert-behind x k [] less h = (less, tt)
   insert-behind x k (y ∷ ks) less h = by (R k y) (insert-behind x k ks less h.1)
     where
-      by : (r : Ordering) → AllByRecursion (λ z. R x z ≡ Less) (insert_key R ks k) → AllByRecursion (λ z. R x z ≡ Less) (match_ordering r (k ∷ y ∷ ks) (y ∷ ks) (y ∷ insert_key R ks k))
+      by : (r : Ordering) → AllByRecursion (λ z. R x z ≡ Less) (insert_key R ks k)
+          → AllByRecursion (λ z. R x z ≡ Less) (match_ordering r (k ∷ y ∷ ks) (y ∷ ks) (y ∷ insert_key R ks k))
       by Less rest = (less, h)
       by Equal rest = h
       by Greater rest = (h.0, rest)
@@ -43,7 +47,8 @@ module _ {K : Type 0} (R : K → K → Ordering) (order : IsTotalOrder R) where
   insert-sorted [] k h = (tt, tt)
   insert-sorted (x ∷ ks) k h = by (R k x) refl (insert-sorted ks k h.1)
     where
-      by : (r : Ordering) → R k x ≡ r → IsStrictlySortedBy R (insert_key R ks k) → IsStrictlySortedBy R (match_ordering r (k ∷ x ∷ ks) (x ∷ ks) (x ∷ insert_key R ks k))
+      by : (r : Ordering) → R k x ≡ r → IsStrictlySortedBy R (insert_key R ks k)
+          → IsStrictlySortedBy R (match_ordering r (k ∷ x ∷ ks) (x ∷ ks) (x ∷ insert_key R ks k))
       by Less e rest = ((e, after-first k x ks e h.0), h)
       by Equal e rest = h
       by Greater e rest = (insert-behind x k ks (turned k x Greater Less e refl) h.0, rest)
@@ -52,7 +57,8 @@ module _ {K : Type 0} (R : K → K → Ordering) (order : IsTotalOrder R) where
   filter-behind p x [] h = tt
   filter-behind p x (y ∷ ks) h = by (p y) (filter-behind p x ks h.1)
     where
-      by : (b : Bool) → AllByRecursion (λ z. R x z ≡ Less) (filter p ks) → AllByRecursion (λ z. R x z ≡ Less) (cond b (y ∷ filter p ks) (filter p ks))
+      by : (b : Bool) → AllByRecursion (λ z. R x z ≡ Less) (filter p ks)
+          → AllByRecursion (λ z. R x z ≡ Less) (cond b (y ∷ filter p ks) (filter p ks))
       by true rest = (h.0, rest)
       by false rest = rest
 
@@ -82,7 +88,8 @@ module _ (priority : List ℕ → ℕ) where
   pub same-bytes : (a b : List ℕ) → a ≡ b → bytes_eq a b ≡ true
   same-bytes a b e = (bytes_eq-Decides a b).1 e
 
-  pub insert-among : (user : List ℕ) (users : List (List ℕ)) (new : List ℕ) → list_any (bytes_eq user) (insert_key (user_order priority) users new) ≡ bytes_eq user new || list_any (bytes_eq user) users
+  pub insert-among : (user : List ℕ) (users : List (List ℕ)) (new : List ℕ)
+      → list_any (bytes_eq user) (insert_key (user_order priority) users new) ≡ bytes_eq user new || list_any (bytes_eq user) users
   insert-among user [] new = refl
   insert-among user (other ∷ users) new = by (user_order priority new other) refl (insert-among user users new)
     where
@@ -96,8 +103,10 @@ module _ (priority : List ℕ → ℕ) where
       held true c e = sym (ap (λ b. b || (true || c)) e)
       held false c e = sym (ap (λ b. b || (false || c)) e)
 
-      by : (r : Ordering) → user_order priority new other ≡ r → list_any (bytes_eq user) (insert_key (user_order priority) users new) ≡ bytes_eq user new || list_any (bytes_eq user) users
-          → list_any (bytes_eq user) (match_ordering r (new ∷ other ∷ users) (other ∷ users) (other ∷ insert_key (user_order priority) users new)) ≡ bytes_eq user new || (bytes_eq user other || list_any (bytes_eq user) users)
+      by : (r : Ordering) → user_order priority new other ≡ r
+          → list_any (bytes_eq user) (insert_key (user_order priority) users new) ≡ bytes_eq user new || list_any (bytes_eq user) users
+          → list_any (bytes_eq user) (match_ordering r (new ∷ other ∷ users) (other ∷ users) (other ∷ insert_key (user_order priority) users new))
+          ≡ bytes_eq user new || (bytes_eq user other || list_any (bytes_eq user) users)
       by Less e rest = refl
       by Equal e rest = held (bytes_eq user other) (list_any (bytes_eq user) users) (ap (bytes_eq user) (order_exact new other e))
       by Greater e rest = ap (λ b. bytes_eq user other || b) rest ∙ turn-round (bytes_eq user other) (bytes_eq user new) (list_any (bytes_eq user) users)
@@ -105,11 +114,14 @@ module _ (priority : List ℕ → ℕ) where
   abbrev pub users_from : List (List ℕ) → List Waiting → List (List ℕ)
   users_from users jobs = fold (λ us job. insert_key (user_order priority) us job.user) users jobs
 
-  pub from-sorted : (users : List (List ℕ)) (jobs : List Waiting) → IsStrictlySortedBy (user_order priority) users → IsStrictlySortedBy (user_order priority) (users_from users jobs)
+  pub from-sorted : (users : List (List ℕ)) (jobs : List Waiting) → IsStrictlySortedBy (user_order priority) users
+      → IsStrictlySortedBy (user_order priority) (users_from users jobs)
   from-sorted users [] h = h
-  from-sorted users (job ∷ jobs) h = from-sorted (insert_key (user_order priority) users job.user) jobs (insert-sorted (user_order priority) order_total users job.user h)
+  from-sorted users (job ∷ jobs) h =
+      from-sorted (insert_key (user_order priority) users job.user) jobs (insert-sorted (user_order priority) order_total users job.user h)
 
-  pub from-among : (user : List ℕ) (users : List (List ℕ)) (jobs : List Waiting) → list_any (bytes_eq user) (users_from users jobs) ≡ list_any (λ job. bytes_eq user job.user) jobs || list_any (bytes_eq user) users
+  pub from-among : (user : List ℕ) (users : List (List ℕ)) (jobs : List Waiting)
+      → list_any (bytes_eq user) (users_from users jobs) ≡ list_any (λ job. bytes_eq user job.user) jobs || list_any (bytes_eq user) users
   from-among user users [] = refl
   from-among user users (job ∷ jobs) =
       from-among user (insert_key (user_order priority) users job.user) jobs
@@ -124,7 +136,8 @@ module _ (priority : List ℕ → ℕ) where
 
 -- ---- those with a job that waits
 
-no-job : (test : Waiting → Bool) (jobs : List Waiting) → list_any test jobs ≡ false → (i : ℕ) → option_map_or test (slice_get jobs i) false ≡ false
+no-job : (test : Waiting → Bool) (jobs : List Waiting) → list_any test jobs ≡ false → (i : ℕ)
+    → option_map_or test (slice_get jobs i) false ≡ false
 no-job test [] none i = refl
 no-job test (job ∷ jobs) none zero = first (test job) none
   where
@@ -141,7 +154,8 @@ any-none : {A : Type 0} (test : A → Bool) → ((x : A) → test x ≡ false) �
 any-none test each [] = refl
 any-none test each (x ∷ xs) = ap (λ b. b || list_any test xs) (each x) ∙ any-none test each xs
 
-any-named : (user : List ℕ) (q : List ℕ → Bool) (users : List (List ℕ)) → list_any (bytes_eq user) (filter q users) ≡ (list_any (bytes_eq user) users && q user)
+any-named : (user : List ℕ) (q : List ℕ → Bool) (users : List (List ℕ))
+    → list_any (bytes_eq user) (filter q users) ≡ (list_any (bytes_eq user) users && q user)
 any-named user q [] = refl
 any-named user q (other ∷ users) = by (bytes_eq user other) (q other) refl refl (any-named user q users)
   where
@@ -155,7 +169,8 @@ any-named user q (other ∷ users) = by (bytes_eq user other) (q other) refl ref
     none false false e = refl
     none true b e = absurd (cc)
 
-    by : (b c : Bool) → bytes_eq user other ≡ b → q other ≡ c → list_any (bytes_eq user) (filter q users) ≡ (list_any (bytes_eq user) users && q user)
+    by : (b c : Bool) → bytes_eq user other ≡ b → q other ≡ c
+        → list_any (bytes_eq user) (filter q users) ≡ (list_any (bytes_eq user) users && q user)
         → list_any (bytes_eq user) (cond c (other ∷ filter q users) (filter q users)) ≡ ((b || list_any (bytes_eq user) users) && q user)
     by false false e f rest = rest
     by false true e f rest = ap (λ a. a || list_any (bytes_eq user) (filter q users)) e ∙ rest
@@ -169,7 +184,8 @@ any-named user q (other ∷ users) = by (bytes_eq user other) (q other) refl ref
 module _ {R : Type 0} (market : Market R) (made : List (Offer R)) where
   pub users-sorted : IsStrictlySortedBy (user_order market.priority) (users_of market made)
   users-sorted =
-      filter-sorted (user_order market.priority) (order_total market.priority) (λ user. list_any (waits market user made) (places market.jobs)) (all_users market)
+      filter-sorted (user_order market.priority) (order_total market.priority) (λ user. list_any (waits market user made) (places market.jobs))
+      (all_users market)
       (from-sorted market.priority [] market.jobs (none-sorted (user_order market.priority)))
 
   pub users-those : (user : List ℕ) → list_any (bytes_eq user) (users_of market made) ≡ list_any (waits market user made) (places market.jobs)
@@ -178,7 +194,8 @@ module _ {R : Type 0} (market : Market R) (made : List (Offer R)) where
       ∙ ap (λ b. b && list_any (waits market user made) (places market.jobs)) (from-among market.priority user [] market.jobs)
       ∙ by (list_any (λ (job : Waiting). bytes_eq user job.user) market.jobs) refl
     where
-      by : (b : Bool) → list_any (λ (job : Waiting). bytes_eq user job.user) market.jobs ≡ b → ((b || false) && list_any (waits market user made) (places market.jobs)) ≡ list_any (waits market user made) (places market.jobs)
+      by : (b : Bool) → list_any (λ (job : Waiting). bytes_eq user job.user) market.jobs ≡ b
+          → ((b || false) && list_any (waits market user made) (places market.jobs)) ≡ list_any (waits market user made) (places market.jobs)
       by true e = refl
       by false e =
           sym (any-none (waits market user made)

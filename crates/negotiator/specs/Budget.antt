@@ -1,5 +1,6 @@
 -- How much the searches of a cycle may count, where each job is searched for at most once.
-use Rattle.std.specs.Prelude.{◌≡◌, ℕ, ◌+◌, ◌*◌, ◌≤◌, Bool, true, false, not, ◌&&◌, List, [], ◌∷◌, filter, length, slice_get, slice_index_or, sum_by, None, if◌then◌else◌}
+use Rattle.std.specs.Prelude.{◌≡◌, ℕ, ◌+◌, ◌*◌, ◌≤◌, Bool, true, false, not, ◌&&◌, List, [], ◌∷◌, filter, length, slice_get}
+use Rattle.std.specs.Prelude.{slice_index_or, sum_by, None, if◌then◌else◌}
 use Rattle.std.specs.List.{range_with_len}
 use Rattle.std.specs.Option.{option_map_or}
 use Rattle.ad_tree.specs.Ad.{ad_frames}
@@ -79,8 +80,11 @@ abbrev pub price_at : (List Job → Request → ℕ) → List Job → ℕ → �
 price_at price jobs i = option_map_or (λ job. price jobs job.request) (slice_get jobs i) 0
 
 -- a job may still be searched for where it is idle and has no mark
+abbrev pub is_due : List Job → List Bool → ℕ → Bool
+is_due jobs failed i = is_idle_at jobs i && not (is_marked failed i)
+
 abbrev pub due : (List Job → Request → ℕ) → List Job → List Bool → ℕ → ℕ
-due price jobs failed i = if is_idle_at jobs i && not (is_marked failed i) then price_at price jobs i else 0
+due price jobs failed i = if is_due jobs failed i then price_at price jobs i else 0
 
 abbrev pub budget : (List Job → Request → ℕ) → List Job → List Bool → ℕ
 budget price jobs failed = sum_by (due price jobs failed) (range_with_len 0 (length jobs))
@@ -100,11 +104,19 @@ pub record IsSearched (moment : ℕ) (stock : Stock) (settings : List Setting) (
   pub entry : after.entry ≤ before.entry + price_at (entries_for moment stock settings) jobs i
   pub touch : after.touch ≤ before.touch + price_at (looks_for stock) jobs i
 
--- the counts rose by no more than what was due and isn't due any more
-pub record ArePaid (moment : ℕ) (stock : Stock) (settings : List Setting) (jobs later : List Job) (failed marked : List Bool) (before after : Counts) : Type 0 where
-  pub tops : after.tops + budget (evaluations_for moment stock settings) later marked ≤ before.tops + budget (evaluations_for moment stock settings) jobs failed
+-- a job that isn't due stays so, and as idle as it is
+abbrev pub AreLeft : List Job → List Bool → List Job → List Bool → Type 0
+AreLeft jobs failed later marked =
+    (i : ℕ) → is_due jobs failed i ≡ false → (is_due later marked i ≡ false) × (is_idle_at later i ≡ is_idle_at jobs i)
+
+-- the counts rose by no more than what was due and isn't due any more, and what wasn't due is left alone
+pub record ArePaid (moment : ℕ) (stock : Stock) (settings : List Setting) (jobs later : List Job) (failed marked : List Bool) (before after : Counts) : Type
+    0 where
+  pub tops : after.tops + budget (evaluations_for moment stock settings) later marked
+      ≤ before.tops + budget (evaluations_for moment stock settings) jobs failed
   pub entry : after.entry + budget (entries_for moment stock settings) later marked ≤ before.entry + budget (entries_for moment stock settings) jobs failed
   pub touch : after.touch + budget (looks_for stock) later marked ≤ before.touch + budget (looks_for stock) jobs failed
+  pub others : AreLeft jobs failed later marked
 
 -- the counts rose by no more than what was due
 pub record AreWithin (moment : ℕ) (stock : Stock) (settings : List Setting) (jobs : List Job) (failed : List Bool) (before after : Counts) : Type 0 where

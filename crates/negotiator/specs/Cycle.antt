@@ -1,11 +1,10 @@
 -- A cycle of negotiation: the users take turns by priority, in spins, until a spin makes no offer.
-use Rattle.std.specs.Prelude.{ℕ, zero, suc, ◌-◌, Bool, true, false, not, ◌&&◌, ◌==◌, nat_lt, List, [], ◌∷◌, ◌++◌, filter, flat_map, fold, length, map, count_by, slice_get, Option, bytes_eq, if◌then◌else◌}
+use Rattle.std.specs.Prelude.{ℕ, zero, suc, ◌-◌, Bool, true, false, not, ◌&&◌, ◌==◌, nat_lt, List, [], ◌∷◌, ◌++◌, filter, flat_map}
+use Rattle.std.specs.Prelude.{fold, length, map, count_by, slice_get, Option, bytes_eq, if◌then◌else◌}
 use Rattle.std.specs.BTreeSet.{insert_key}
-use Rattle.std.specs.Cmp.Lexicographic.{slice_cmp}
 use Rattle.std.specs.List.{list_any, range_with_len}
 use Rattle.std.specs.Option.{option_map_or}
-use Rattle.std.specs.Ordering.{nat_cmp, ordering_then}
-use Rattle.std.specs.declared.cmp.Ordering.{Ordering}
+use Rattle.claim_table.specs.Priorities.{user_order}
 use Rattle.pie_slices.specs.Slices.{slices_of, weight_of}
 
 -- ---- what a cycle is about
@@ -48,10 +47,6 @@ places jobs = range_with_len 0 (length jobs)
 abbrev pub is_empty : {A : Type 0} → List A → Bool
 is_empty [] = true
 is_empty (x ∷ xs) = false
-
--- users by priority, where a lower number is better, and then by name, byte for byte
-abbrev pub user_order : (List ℕ → ℕ) → List ℕ → List ℕ → Ordering
-user_order priority a b = ordering_then (nat_cmp (priority a) (priority b)) (slice_cmp nat_cmp a b)
 
 module _ {R : Type 0} where
   -- one of these offers is to the job at a place
@@ -98,7 +93,8 @@ module _ {R : Type 0} (market : Market R) where
       then (if given && nat_lt left (wants_of i)
       then []
       else option_map_or
-      (λ resources. record { job = i; resources = resources } ∷ turn user is (left - wants_of i) true (made ++ record { job = i; resources = resources } ∷ []))
+      (λ resources. record { job = i; resources = resources }
+      ∷ turn user is (left - wants_of i) true (made ++ record { job = i; resources = resources } ∷ []))
       (market.find made i)
       (turn user is left given made))
       else turn user is left given made

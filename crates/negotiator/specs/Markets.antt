@@ -1,5 +1,6 @@
 -- The market of a pool: its jobs, and the resources of a store by their slots.
-use Rattle.std.specs.Prelude.{◌≡◌, ℕ, Bool, true, false, ◌&&◌, List, [], ◌∷◌, ◌++◌, count_by, map, slice_get, Option, Some, is_none, is_some, option_and_then, option_map}
+use Rattle.std.specs.Prelude.{◌≡◌, ℕ, Bool, true, false, ◌&&◌, List, [], ◌∷◌, ◌++◌, count_by, map, slice_get, Option, Some, is_none}
+use Rattle.std.specs.Prelude.{is_some, option_and_then, option_map}
 use Rattle.std.specs.Option.{option_map_or}
 use Rattle.ad_tree.specs.Ad.{ad_frames}
 use Rattle.ad_tree.specs.Frames.{Frame}
@@ -61,7 +62,8 @@ abbrev pub found_for : ℕ → Stock → List Setting → List Job → ℕ → R
 found_for moment stock settings jobs number request = found_by stock (pool_for moment stock settings jobs) number (ad_frames request.ad) request.ports
 
 abbrev pub found : ℕ → Stock → List Setting → List Job → ℕ → Option (List ℕ)
-found moment stock settings jobs i = option_and_then (λ job. found_for moment stock settings jobs (priority_of job.user settings) job.request) (slice_get jobs i)
+found moment stock settings jobs i =
+    option_and_then (λ job. found_for moment stock settings jobs (priority_of job.user settings) job.request) (slice_get jobs i)
 
 -- a resource is free that is neither offered nor claimed
 abbrev pub is_free : List Job → ℕ → Bool

@@ -13,20 +13,19 @@ ghost use Rattle.claim_table.specs.Holders.{holder_of};
 ghost use Rattle.claim_table.specs.Small.{AreSmallJobs};
 ghost use Rattle.claim_table.specs.Table.{jobs_of};
 ghost use Rattle.conjunct_plan.specs.Tests.{tests_of};
-ghost use Rattle.job_classes.specs.Twins.{AreTwins};
 ghost use Rattle.literal_index.specs.Shown.{IsIndex};
+ghost use Rattle.significant_attrs.specs.Twins.{AreTwins};
 ghost use Rattle.negotiator.specs.Clusters.{IsClass, IsRanked, is_offered};
 ghost use Rattle.negotiator.specs.Markets.{pool_for};
 ghost use Rattle.negotiator.specs.Scenes.{settings_in, stock_in};
 
-use crate::Scene;
+use crate::{Scene, twins_are_matched_alike};
 use ad_tree::{Ad, Request};
 use bilateral_match::{Known, Looks, best_knowing, shortlist};
 use claim_table::{ClaimTable, Standing};
-use class_laws::twins_are_matched_alike;
-use job_classes::are_twins;
 use pool_steps::Steps;
 use pool_text::{OutOfMemory, Slots};
+use significant_attrs::are_twins;
 use std::convert::AsSlice;
 use std::sync::ledger::Ledger;
 
@@ -119,14 +118,18 @@ impl Class {
         requires known { AreKnown scene.now.moment (stock_in scene.now).ads known.old }
         requires class { IsClass scene.now.moment (stock_in scene.now) (settings_in scene.now) (jobs_of claims.now) self.old }
         requires twins { AreTwins self.old.marks.items (ad_frames self.old.ad) (ad_frames request.now.ad) }
-        ensures best { IfOk result (λ slot. slot ≡ best_slot (stock_in scene.now) (pool_for scene.now.moment (stock_in scene.now) (settings_in scene.now) (jobs_of claims.now)) (ad_frames request.now.ad) self.old.number) }
+        ensures best { IfOk result (λ slot. slot ≡ best_slot (stock_in scene.now) (pool_for scene.now.moment (stock_in scene.now) (settings_in scene.now)
+            (jobs_of claims.now)) (ad_frames request.now.ad) self.old.number) }
         ensures free { IfOk result (λ slot. IfSome slot (λ s. is_offered (jobs_of claims.now) s ≡ false)) }
         ensures known { AreKnown scene.now.moment (stock_in scene.now).ads known.new }
         ensures class { IsClass scene.now.moment (stock_in scene.now) (settings_in scene.now) (jobs_of claims.now) self.new }
-        ensures evaluations { tops.new ≤ tops.old + 5 * open_count (pool_for scene.now.moment (stock_in scene.now) (settings_in scene.now) (jobs_of claims.now)) (ad_frames request.now.ad) }
-        ensures entries { entry.new ≤ entry.old + entered_for (pool_for scene.now.moment (stock_in scene.now) (settings_in scene.now) (jobs_of claims.now)) (ad_frames request.now.ad) }
+        ensures evaluations { tops.new ≤ tops.old + 5 * open_count (pool_for scene.now.moment (stock_in scene.now) (settings_in scene.now)
+            (jobs_of claims.now)) (ad_frames request.now.ad) }
+        ensures entries { entry.new ≤ entry.old + entered_for (pool_for scene.now.moment (stock_in scene.now) (settings_in scene.now)
+            (jobs_of claims.now)) (ad_frames request.now.ad) }
         ensures ratio { AreSmallAds (stock_in scene.now).ads → AreSmallJobs (jobs_of claims.now) → entry.new + 9216 * tops.old ≤ entry.old + 9216 * tops.new }
-        ensures looks { touch.new + looks.new.saved ≤ touch.old + looks.old.saved + 9 * least_left (stock_in scene.now).ads (tests_of (ad_frames request.now.ad) 0 []) }
+        ensures looks { touch.new + looks.new.saved ≤ touch.old + looks.old.saved + 9 * least_left (stock_in scene.now).ads (tests_of (ad_frames request.now.ad)
+            0 []) }
     {
         twins_are_matched_alike(&self.ad, &request.ad);
         if let Some(ranked) = &mut self.ranked {
@@ -173,13 +176,17 @@ pub(crate) fn search_alone<F: Ledger, E: Ledger, T: Ledger>(
     requires job { option_map (λ job. job.request) (slice_get (jobs_of claims.now) i) ≡ Some request.now }
     requires single { request.now.ports ≡ [] }
     requires known { AreKnown scene.now.moment (stock_in scene.now).ads known.old }
-    ensures best { IfOk result (λ slot. slot ≡ best_slot (stock_in scene.now) (pool_for scene.now.moment (stock_in scene.now) (settings_in scene.now) (jobs_of claims.now)) (ad_frames request.now.ad) number) }
+    ensures best { IfOk result (λ slot. slot ≡ best_slot (stock_in scene.now) (pool_for scene.now.moment (stock_in scene.now) (settings_in scene.now)
+        (jobs_of claims.now)) (ad_frames request.now.ad) number) }
     ensures free { IfOk result (λ slot. IfSome slot (λ s. is_offered (jobs_of claims.now) s ≡ false)) }
     ensures known { AreKnown scene.now.moment (stock_in scene.now).ads known.new }
-    ensures evaluations { tops.new ≤ tops.old + 5 * open_count (pool_for scene.now.moment (stock_in scene.now) (settings_in scene.now) (jobs_of claims.now)) (ad_frames request.now.ad) }
-    ensures entries { entry.new ≤ entry.old + entered_for (pool_for scene.now.moment (stock_in scene.now) (settings_in scene.now) (jobs_of claims.now)) (ad_frames request.now.ad) }
+    ensures evaluations { tops.new ≤ tops.old + 5 * open_count (pool_for scene.now.moment (stock_in scene.now) (settings_in scene.now)
+        (jobs_of claims.now)) (ad_frames request.now.ad) }
+    ensures entries { entry.new ≤ entry.old + entered_for (pool_for scene.now.moment (stock_in scene.now) (settings_in scene.now)
+        (jobs_of claims.now)) (ad_frames request.now.ad) }
     ensures ratio { AreSmallAds (stock_in scene.now).ads → AreSmallJobs (jobs_of claims.now) → entry.new + 9216 * tops.old ≤ entry.old + 9216 * tops.new }
-    ensures looks { touch.new + looks.new.saved ≤ touch.old + looks.old.saved + 9 * least_left (stock_in scene.now).ads (tests_of (ad_frames request.now.ad) 0 []) }
+    ensures looks { touch.new + looks.new.saved ≤ touch.old + looks.old.saved + 9 * least_left (stock_in scene.now).ads (tests_of (ad_frames request.now.ad) 0
+        []) }
 {
     let standing = Standing {
         claims,
@@ -216,9 +223,12 @@ fn rank<F: Ledger, E: Ledger, T: Ledger>(
     requires stored { AreStored (stock_in scene.now) (holder_of (settings_in scene.now) (jobs_of claims.now)) }
     requires job { option_map (λ job. job.request) (slice_get (jobs_of claims.now) i) ≡ Some request.now }
     requires single { request.now.ports ≡ [] }
-    ensures ranked { IfOk result (IsRanked scene.now.moment (stock_in scene.now) (settings_in scene.now) (jobs_of claims.now) (ad_frames request.now.ad) number) }
-    ensures evaluations { tops.new ≤ tops.old + 5 * open_count (pool_for scene.now.moment (stock_in scene.now) (settings_in scene.now) (jobs_of claims.now)) (ad_frames request.now.ad) }
-    ensures entries { entry.new ≤ entry.old + entered_for (pool_for scene.now.moment (stock_in scene.now) (settings_in scene.now) (jobs_of claims.now)) (ad_frames request.now.ad) }
+    ensures ranked { IfOk result (IsRanked scene.now.moment (stock_in scene.now) (settings_in scene.now) (jobs_of claims.now) (ad_frames request.now.ad)
+        number) }
+    ensures evaluations { tops.new ≤ tops.old + 5 * open_count (pool_for scene.now.moment (stock_in scene.now) (settings_in scene.now)
+        (jobs_of claims.now)) (ad_frames request.now.ad) }
+    ensures entries { entry.new ≤ entry.old + entered_for (pool_for scene.now.moment (stock_in scene.now) (settings_in scene.now)
+        (jobs_of claims.now)) (ad_frames request.now.ad) }
     ensures ratio { AreSmallAds (stock_in scene.now).ads → AreSmallJobs (jobs_of claims.now) → entry.new + 9216 * tops.old ≤ entry.old + 9216 * tops.new }
     ensures looks { touch.new ≤ touch.old + 9 * least_left (stock_in scene.now).ads (tests_of (ad_frames request.now.ad) 0 []) }
 {

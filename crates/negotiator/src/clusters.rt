@@ -1,5 +1,5 @@
 // What the jobs of a cycle share: the jobs of a class one list of resources, and all jobs what is known of ranks and tests.
-ghost use Rattle.std.specs.Prelude.{◌≡◌, ◌<◌, ◌≤◌, ◌+◌, ◌*◌, ℕ, List, [], false, IfOk, IfSome, None, Some, length, option_map, slice_get, vec_len};
+ghost use Rattle.std.specs.Prelude.{◌≡◌, ◌<◌, ◌≤◌, ◌+◌, ◌*◌, ℕ, List, [], false, IfOk, IfSome, None, Some, length, option_map, slice_get};
 ghost use Rattle.ad_tree.specs.Ad.{ad_frames};
 ghost use Rattle.ad_store.specs.Stock.{Advert, Stock};
 ghost use Rattle.ad_candidates.specs.Counts.{least_left};
@@ -15,9 +15,9 @@ ghost use Rattle.claim_table.specs.Priorities.{Setting};
 ghost use Rattle.claim_table.specs.Small.{AreSmallJobs};
 ghost use Rattle.claim_table.specs.Table.{jobs_of};
 ghost use Rattle.conjunct_plan.specs.Tests.{tests_of};
-ghost use Rattle.job_classes.specs.Shown.{HasReadAds, ads_in};
-ghost use Rattle.job_classes.specs.Twins.{AreAllMarked, AreTwins};
 ghost use Rattle.literal_index.specs.Shown.{IsIndex};
+ghost use Rattle.significant_attrs.specs.Shown.{HasReadAds, ads_in};
+ghost use Rattle.significant_attrs.specs.Twins.{AreAllMarked, AreTwins};
 ghost use Rattle.negotiator.specs.declared.class.Class.{Class};
 ghost use Rattle.negotiator.specs.Clusters.{AreClusters, is_offered};
 ghost use Rattle.negotiator.specs.Markets.{pool_for};
@@ -28,9 +28,9 @@ use crate::{Class, Scene};
 use ad_tree::Request;
 use bilateral_match::{Known, Looks};
 use claim_table::ClaimTable;
-use job_classes::{Reach, digest};
 use pool_steps::Steps;
 use pool_text::OutOfMemory;
+use significant_attrs::{Reach, digest};
 use std::alloc::Global;
 use std::sync::ledger::Ledger;
 
@@ -42,58 +42,39 @@ const CLASSES_LIMIT: usize = 64;
 const ALONE_LIMIT: usize = 16;
 
 /// What the jobs of a cycle share: the classes of those without ports that were tried, and what is known of the ranks that they give
-/// resources. While the names by which the resources' ads ask aren't read, classes are of equal ads. Beside them stand counts: of
-/// kinds of classes, of jobs that were of a class and of those that weren't, and of looks.
+/// resources. While the names by which the resources' ads ask aren't read, classes are of equal ads. Beside them stand the digests of
+/// the last job for each kind of classes, and counts: of jobs that were of a class and of those that weren't, of looks, and of free resources.
 #[derive(Drop)]
 pub struct Clusters {
     pub reach: Option<Reach>,
     pub classes: Vec<Class>,
-    pub kinds: usize,
+    pub digests: Vec<Option<u64>>,
     pub shared: usize,
     pub alone: usize,
     pub looks: Looks,
     pub known: Known,
+    pub free: u64,
 }
 
 impl Clusters {
-    /// No job was tried yet. It takes no memory.
-    pub(crate) fn new(alloc: Global) -> Clusters
+    /// No job was tried yet, and so many resources are free. It takes no memory.
+    pub(crate) fn new(alloc: Global, free: u64) -> Clusters
         ensures reach { result.reach ≡ None }
         ensures classes { result.classes.items ≡ [] }
         ensures saved { result.looks.saved ≡ 0 }
         ensures known { (moment : ℕ) (ads : List Advert) → AreKnown moment ads result.known }
+        ensures free { result.free ≡ free }
     {
         Clusters {
             reach: None,
             classes: Vec::new(alloc),
-            kinds: 0,
+            digests: Vec::new(alloc),
             shared: 0,
             alone: 0,
             looks: Looks::none(),
             known: Known::new(alloc),
+            free,
         }
-    }
-
-    // The place of the class of a request, whose user has this number. The request's digest is found once for all classes of a kind.
-    fn place_of(
-        &self,
-        alloc: Global,
-        request: &Request,
-        number: u64,
-    ) -> Result<Option<usize>, OutOfMemory>
-        ensures within { IfOk result (λ place. IfSome place (λ k. k < vec_len self.now.classes)) }
-        ensures twins { IfOk result (λ place. IfSome place (λ k. (class : Class) → slice_get self.now.classes.items k ≡ Some class → AreTwins class.marks.items (ad_frames class.ad) (ad_frames request.now.ad))) }
-        ensures number { IfOk result (λ place. IfSome place (λ k. (class : Class) → slice_get self.now.classes.items k ≡ Some class → class.number ≡ number)) }
-    {
-        let mut digests = vec![in alloc; None; self.kinds]?;
-        for k in 0..self.classes.len() {
-            let class = &self.classes[k];
-            let digest = digest_for(&mut digests, class, request);
-            if class.has(request, number, digest) {
-                return Ok(Some(k));
-            }
-        }
-        Ok(None)
     }
 
     // Reads the names by which the ads of the resources ask, once that is likely to pay, and once as many looks are saved. From then
@@ -103,7 +84,8 @@ impl Clusters {
         scene: &Scene<'_>,
         touch: &mut Steps<T>,
     ) -> Result<(), OutOfMemory>
-        ensures clusters { (settings : List Setting) (jobs : List Job) → AreClusters scene.now.moment (stock_in scene.now) settings jobs self.old → AreClusters scene.now.moment (stock_in scene.now) settings jobs self.new }
+        ensures clusters { (settings : List Setting) (jobs : List Job) → AreClusters scene.now.moment (stock_in scene.now) settings jobs self.old
+            → AreClusters scene.now.moment (stock_in scene.now) settings jobs self.new }
         ensures looks { touch.new + self.new.looks.saved ≤ touch.old + self.old.looks.saved }
     {
         let ads = scene.store.len() as u64;
@@ -115,14 +97,15 @@ impl Clusters {
         self.reach = Some(reach);
         if self.shared == 0 {
             self.classes.clear();
-            self.kinds = 0;
+            self.digests.clear();
         }
         Ok(())
     }
 
     // Remembers the class of a request that was searched for alone, while there are few.
     fn note(&mut self, alloc: Global, request: &Request, number: u64) -> Result<(), OutOfMemory>
-        ensures clusters { (moment : ℕ) (stock : Stock) (settings : List Setting) (jobs : List Job) → AreClusters moment stock settings jobs self.old → AreClusters moment stock settings jobs self.new }
+        ensures clusters { (moment : ℕ) (stock : Stock) (settings : List Setting) (jobs : List Job) → AreClusters moment stock settings jobs self.old
+            → AreClusters moment stock settings jobs self.new }
         ensures looks { self.new.looks ≡ self.old.looks }
     {
         self.alone = self.alone.saturating_add(1);
@@ -143,8 +126,8 @@ impl Clusters {
             ranked: None,
         };
         self.classes.push(class)?;
-        if kind == self.kinds {
-            self.kinds = self.kinds.saturating_add(1);
+        if kind == self.digests.len() {
+            self.digests.push(None)?;
         }
         Ok(())
     }
@@ -166,8 +149,32 @@ impl Clusters {
                 return self.classes[k].kind;
             }
         }
-        self.kinds
+        self.digests.len()
     }
+}
+
+// The place of the class of a request, whose user has this number. The request's digest is found once for all classes of a kind, and
+// kept in this list.
+fn place_of(
+    classes: &[Class],
+    digests: &mut [Option<u64>],
+    request: &Request,
+    number: u64,
+) -> Option<usize>
+    ensures within { IfSome result (λ k. k < length classes.now) }
+    ensures twins { IfSome result (λ k. (class : Class) → slice_get classes.now k ≡ Some class
+        → AreTwins class.marks.items (ad_frames class.ad) (ad_frames request.now.ad)) }
+    ensures number { IfSome result (λ k. (class : Class) → slice_get classes.now k ≡ Some class → class.number ≡ number) }
+{
+    digests.fill(None);
+    for k in 0..classes.len() {
+        let class = &classes[k];
+        let digest = digest_for(digests, class, request);
+        if class.has(request, number, digest) {
+            return Some(k);
+        }
+    }
+    None
 }
 
 // The digest of a request for the classes of this kind.
@@ -191,7 +198,8 @@ fn marks_of(
     reach: &Option<Reach>,
     request: &Request,
 ) -> Result<Vec<bool>, OutOfMemory>
-    ensures { IfOk result (λ marks. (ads : List Advert) → IfSome reach.now (λ r. HasReadAds r ads) → AreAllMarked (ads_in ads) (ad_frames request.now.ad) marks.items) }
+    ensures { IfOk result (λ marks. (ads : List Advert) → IfSome reach.now (λ r. HasReadAds r ads)
+        → AreAllMarked (ads_in ads) (ad_frames request.now.ad) marks.items) }
 {
     match reach {
         Some(reach) => reach.marks(request),
@@ -216,15 +224,19 @@ pub(crate) fn choose<F: Ledger, E: Ledger, T: Ledger>(
     requires job { option_map (λ job. job.request) (slice_get (jobs_of claims.now) i) ≡ Some request.now }
     requires single { request.now.ports ≡ [] }
     requires clusters { AreClusters scene.now.moment (stock_in scene.now) (settings_in scene.now) (jobs_of claims.now) clusters.old }
-    ensures best { IfOk result (λ slot. slot ≡ best_slot (stock_in scene.now) (pool_for scene.now.moment (stock_in scene.now) (settings_in scene.now) (jobs_of claims.now)) (ad_frames request.now.ad) number) }
+    ensures best { IfOk result (λ slot. slot ≡ best_slot (stock_in scene.now) (pool_for scene.now.moment (stock_in scene.now) (settings_in scene.now)
+        (jobs_of claims.now)) (ad_frames request.now.ad) number) }
     ensures free { IfOk result (λ slot. IfSome slot (λ s. is_offered (jobs_of claims.now) s ≡ false)) }
     ensures clusters { AreClusters scene.now.moment (stock_in scene.now) (settings_in scene.now) (jobs_of claims.now) clusters.new }
-    ensures evaluations { tops.new ≤ tops.old + 5 * open_count (pool_for scene.now.moment (stock_in scene.now) (settings_in scene.now) (jobs_of claims.now)) (ad_frames request.now.ad) }
-    ensures entries { entry.new ≤ entry.old + entered_for (pool_for scene.now.moment (stock_in scene.now) (settings_in scene.now) (jobs_of claims.now)) (ad_frames request.now.ad) }
+    ensures evaluations { tops.new ≤ tops.old + 5 * open_count (pool_for scene.now.moment (stock_in scene.now) (settings_in scene.now)
+        (jobs_of claims.now)) (ad_frames request.now.ad) }
+    ensures entries { entry.new ≤ entry.old + entered_for (pool_for scene.now.moment (stock_in scene.now) (settings_in scene.now)
+        (jobs_of claims.now)) (ad_frames request.now.ad) }
     ensures ratio { AreSmallAds (stock_in scene.now).ads → AreSmallJobs (jobs_of claims.now) → entry.new + 9216 * tops.old ≤ entry.old + 9216 * tops.new }
-    ensures looks { touch.new + clusters.new.looks.saved ≤ touch.old + clusters.old.looks.saved + 9 * least_left (stock_in scene.now).ads (tests_of (ad_frames request.now.ad) 0 []) }
+    ensures looks { touch.new + clusters.new.looks.saved
+        ≤ touch.old + clusters.old.looks.saved + 9 * least_left (stock_in scene.now).ads (tests_of (ad_frames request.now.ad) 0 []) }
 {
-    if let Some(k) = clusters.place_of(scene.alloc, request, number)? {
+    if let Some(k) = place_of(&clusters.classes, &mut clusters.digests, request, number) {
         clusters.shared = clusters.shared.saturating_add(1);
         return clusters.classes[k].choose(
             scene,
@@ -260,13 +272,17 @@ fn search_new<F: Ledger, E: Ledger, T: Ledger>(
     requires job { option_map (λ job. job.request) (slice_get (jobs_of claims.now) i) ≡ Some request.now }
     requires single { request.now.ports ≡ [] }
     requires clusters { AreClusters scene.now.moment (stock_in scene.now) (settings_in scene.now) (jobs_of claims.now) clusters.old }
-    ensures best { IfOk result (λ slot. slot ≡ best_slot (stock_in scene.now) (pool_for scene.now.moment (stock_in scene.now) (settings_in scene.now) (jobs_of claims.now)) (ad_frames request.now.ad) number) }
+    ensures best { IfOk result (λ slot. slot ≡ best_slot (stock_in scene.now) (pool_for scene.now.moment (stock_in scene.now) (settings_in scene.now)
+        (jobs_of claims.now)) (ad_frames request.now.ad) number) }
     ensures free { IfOk result (λ slot. IfSome slot (λ s. is_offered (jobs_of claims.now) s ≡ false)) }
     ensures clusters { AreClusters scene.now.moment (stock_in scene.now) (settings_in scene.now) (jobs_of claims.now) clusters.new }
-    ensures evaluations { tops.new ≤ tops.old + 5 * open_count (pool_for scene.now.moment (stock_in scene.now) (settings_in scene.now) (jobs_of claims.now)) (ad_frames request.now.ad) }
-    ensures entries { entry.new ≤ entry.old + entered_for (pool_for scene.now.moment (stock_in scene.now) (settings_in scene.now) (jobs_of claims.now)) (ad_frames request.now.ad) }
+    ensures evaluations { tops.new ≤ tops.old + 5 * open_count (pool_for scene.now.moment (stock_in scene.now) (settings_in scene.now)
+        (jobs_of claims.now)) (ad_frames request.now.ad) }
+    ensures entries { entry.new ≤ entry.old + entered_for (pool_for scene.now.moment (stock_in scene.now) (settings_in scene.now)
+        (jobs_of claims.now)) (ad_frames request.now.ad) }
     ensures ratio { AreSmallAds (stock_in scene.now).ads → AreSmallJobs (jobs_of claims.now) → entry.new + 9216 * tops.old ≤ entry.old + 9216 * tops.new }
-    ensures looks { touch.new + clusters.new.looks.saved ≤ touch.old + clusters.old.looks.saved + 9 * least_left (stock_in scene.now).ads (tests_of (ad_frames request.now.ad) 0 []) }
+    ensures looks { touch.new + clusters.new.looks.saved
+        ≤ touch.old + clusters.old.looks.saved + 9 * least_left (stock_in scene.now).ads (tests_of (ad_frames request.now.ad) 0 []) }
 {
     clusters.read_names(scene, touch)?;
     let slot = search_alone(

@@ -1,5 +1,6 @@
 // The search for one job.
-ghost use Rattle.std.specs.Prelude.{◌≡◌, ◌≢◌, ◌<◌, ◌≤◌, ◌+◌, ◌*◌, ◌∷◌, ℕ, true, [], All, AllPairs, IfOk, IfSome, OnErr, OnOk, Some, length, option_map, slice_get};
+ghost use Rattle.std.specs.Prelude.{◌≡◌, ◌≢◌, ◌<◌, ◌≤◌, ◌+◌, ◌*◌, ◌∷◌, ℕ, true, [], All, AllPairs, IfOk, IfSome, OnErr, OnOk, Some, length, option_map};
+ghost use Rattle.std.specs.Prelude.{slice_get};
 ghost use Rattle.std.specs.Option.{option_map_or};
 ghost use Rattle.ad_tree.specs.Ad.{ad_frames};
 ghost use Rattle.ad_tree.specs.Small.{IsSmall};
@@ -19,6 +20,7 @@ ghost use Rattle.negotiator.specs.Markets.{AreOwn, found, found_for, offer_named
 ghost use Rattle.negotiator.specs.Scenes.{IsReady, settings_in, stock_in};
 
 use crate::clusters::choose;
+use crate::free::free_in;
 use crate::{Clusters, Offered, Scene};
 use ad_tree::Request;
 use claim_table::{ClaimTable, JobState, Standing};
@@ -67,9 +69,11 @@ fn search<F: Ledger, E: Ledger, T: Ledger>(
     ensures found { IfOk result (λ slots. slots ≡ found scene.now.moment (stock_in scene.now) (settings_in scene.now) (jobs_of claims.now) i) }
     ensures free { IfOk result (λ slots. IfSome slots (λ list. AreFree list (jobs_of claims.now))) }
     ensures distinct { IfOk result (λ slots. IfSome slots (AllPairs (λ a b. a ≢ b))) }
-    ensures enough { IfOk result (λ slots. IfSome slots (λ list. option_map (λ job. wanted job.request) (slice_get (jobs_of claims.now) i) ≡ Some (length list))) }
+    ensures enough { IfOk result (λ slots. IfSome slots
+        (λ list. option_map (λ job. wanted job.request) (slice_get (jobs_of claims.now) i) ≡ Some (length list))) }
     ensures clusters { AreClusters scene.now.moment (stock_in scene.now) (settings_in scene.now) (jobs_of claims.now) clusters.new }
-    ensures counted { IsSearched scene.now.moment (stock_in scene.now) (settings_in scene.now) (jobs_of claims.now) i (counts tops.old entry.old (touch.old + clusters.old.looks.saved)) (counts tops.new entry.new (touch.new + clusters.new.looks.saved)) }
+    ensures counted { IsSearched scene.now.moment (stock_in scene.now) (settings_in scene.now) (jobs_of claims.now) i
+        (counts tops.old entry.old (touch.old + clusters.old.looks.saved)) (counts tops.new entry.new (touch.new + clusters.new.looks.saved)) }
     ensures ratio { AreSmallAds (stock_in scene.now).ads → AreSmallJobs (jobs_of claims.now) → entry.new + 9216 * tops.old ≤ entry.old + 9216 * tops.new }
 {
     let request = claims.request(i);
@@ -100,7 +104,8 @@ fn search_one<F: Ledger, E: Ledger, T: Ledger>(
     requires job { option_map (λ job. job.request) (slice_get (jobs_of claims.now) i) ≡ Some request.now }
     requires single { request.now.ports ≡ [] }
     requires clusters { AreClusters scene.now.moment (stock_in scene.now) (settings_in scene.now) (jobs_of claims.now) clusters.old }
-    ensures found { IfOk result (λ slots. slots ≡ found_for scene.now.moment (stock_in scene.now) (settings_in scene.now) (jobs_of claims.now) number request.now) }
+    ensures found { IfOk result (λ slots. slots ≡ found_for scene.now.moment (stock_in scene.now) (settings_in scene.now) (jobs_of
+        claims.now) number request.now) }
     ensures free { IfOk result (λ slots. IfSome slots (λ list. AreFree list (jobs_of claims.now))) }
     ensures distinct { IfOk result (λ slots. IfSome slots (AllPairs (λ a b. a ≢ b))) }
     ensures enough { IfOk result (λ slots. IfSome slots (λ list. wanted request.now ≡ length list)) }
@@ -108,7 +113,8 @@ fn search_one<F: Ledger, E: Ledger, T: Ledger>(
     ensures evaluations { tops.new ≤ tops.old + evaluations_for scene.now.moment (stock_in scene.now) (settings_in scene.now) (jobs_of claims.now) request.now }
     ensures entries { entry.new ≤ entry.old + entries_for scene.now.moment (stock_in scene.now) (settings_in scene.now) (jobs_of claims.now) request.now }
     ensures ratio { AreSmallAds (stock_in scene.now).ads → AreSmallJobs (jobs_of claims.now) → entry.new + 9216 * tops.old ≤ entry.old + 9216 * tops.new }
-    ensures looks { touch.new + clusters.new.looks.saved ≤ touch.old + clusters.old.looks.saved + looks_for (stock_in scene.now) (jobs_of claims.now) request.now }
+    ensures looks { touch.new + clusters.new.looks.saved
+        ≤ touch.old + clusters.old.looks.saved + looks_for (stock_in scene.now) (jobs_of claims.now) request.now }
 {
     let slot = choose(
         scene, claims, i, request, number, clusters, tops, entry, touch,
@@ -140,7 +146,8 @@ fn search_gang<F: Ledger, E: Ledger, T: Ledger>(
     requires index { IsIndex scene.now.index.now (rows_of (stock_in scene.now)) }
     requires ports { ports_of (ad_frames request.now.ad) ≡ Some request.now.ports }
     requires some { 0 < length request.now.ports }
-    ensures found { IfOk result (λ slots. (number : ℕ) → slots ≡ found_for scene.now.moment (stock_in scene.now) (settings_in scene.now) (jobs_of claims.now) number request.now) }
+    ensures found { IfOk result (λ slots. (number : ℕ)
+        → slots ≡ found_for scene.now.moment (stock_in scene.now) (settings_in scene.now) (jobs_of claims.now) number request.now) }
     ensures free { IfOk result (λ slots. IfSome slots (λ list. AreFree list (jobs_of claims.now))) }
     ensures distinct { IfOk result (λ slots. IfSome slots (AllPairs (λ a b. a ≢ b))) }
     ensures enough { IfOk result (λ slots. IfSome slots (λ list. wanted request.now ≡ length list)) }
@@ -214,13 +221,17 @@ pub(crate) fn try_job<F: Ledger, E: Ledger, T: Ledger>(
     requires idle { is_idle_at (jobs_of claims.old) i ≡ true }
     requires ready { IsReady scene.now (jobs_of claims.old) failed.old }
     requires clusters { AreClusters scene.now.moment (stock_in scene.now) (settings_in scene.now) (jobs_of claims.old) clusters.old }
-    ensures offered { IfOk result (λ o. o ≡ option_map (λ slots. offer_named (jobs_of claims.old) (record { job = i; resources = slots })) (found scene.now.moment (stock_in scene.now) (settings_in scene.now) (jobs_of claims.old) i)) }
-    ensures table { OnOk result (jobs_of claims.new ≡ option_map_or (λ slots. with_standing (jobs_of claims.old) i (Stage.Matched slots)) (found scene.now.moment (stock_in scene.now) (settings_in scene.now) (jobs_of claims.old) i) (jobs_of claims.old)) }
+    ensures offered { IfOk result (λ o. o ≡ option_map (λ slots. offer_named (jobs_of claims.old) (record { job = i; resources = slots })) (found
+        scene.now.moment (stock_in scene.now) (settings_in scene.now) (jobs_of claims.old) i)) }
+    ensures table { OnOk result (jobs_of claims.new ≡ option_map_or (λ slots. with_standing (jobs_of claims.old) i (Stage.Matched slots)) (found
+        scene.now.moment (stock_in scene.now) (settings_in scene.now) (jobs_of claims.old) i) (jobs_of claims.old)) }
     ensures err { OnErr result (jobs_of claims.new ≡ jobs_of claims.old) }
     ensures ready { IsReady scene.now (jobs_of claims.new) failed.new }
     ensures clusters { AreClusters scene.now.moment (stock_in scene.now) (settings_in scene.now) (jobs_of claims.new) clusters.new }
-    ensures paid { OnOk result (ArePaid scene.now.moment (stock_in scene.now) (settings_in scene.now) (jobs_of claims.old) (jobs_of claims.new) failed.old failed.new (counts tops.old entry.old (touch.old + clusters.old.looks.saved)) (counts tops.new entry.new (touch.new + clusters.new.looks.saved))) }
-    ensures within { AreWithin scene.now.moment (stock_in scene.now) (settings_in scene.now) (jobs_of claims.old) failed.old (counts tops.old entry.old (touch.old + clusters.old.looks.saved)) (counts tops.new entry.new (touch.new + clusters.new.looks.saved)) }
+    ensures paid { OnOk result (ArePaid scene.now.moment (stock_in scene.now) (settings_in scene.now) (jobs_of claims.old) (jobs_of claims.new) failed.old
+        failed.new (counts tops.old entry.old (touch.old + clusters.old.looks.saved)) (counts tops.new entry.new (touch.new + clusters.new.looks.saved))) }
+    ensures within { AreWithin scene.now.moment (stock_in scene.now) (settings_in scene.now) (jobs_of claims.old) failed.old
+        (counts tops.old entry.old (touch.old + clusters.old.looks.saved)) (counts tops.new entry.new (touch.new + clusters.new.looks.saved)) }
     ensures ratio { AreSmallAds (stock_in scene.now).ads → AreSmallJobs (jobs_of claims.old) → entry.new + 9216 * tops.old ≤ entry.old + 9216 * tops.new }
 {
     if failed[i] {
@@ -230,5 +241,9 @@ pub(crate) fn try_job<F: Ledger, E: Ledger, T: Ledger>(
         failed[i] = true;
         return Ok(None);
     };
-    Ok(Some(give(scene.alloc, claims, i, slots)?))
+    scene.store.slots_are_apart();
+    let taken = free_in(claims, slots.as_slice());
+    let offered = give(scene.alloc, claims, i, slots)?;
+    clusters.free -= taken;
+    Ok(Some(offered))
 }

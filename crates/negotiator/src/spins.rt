@@ -1,6 +1,5 @@
 // Spins, and the cycle of them.
-ghost use Rattle.std.specs.Prelude.{◌≡◌, ◌≤◌, ◌<◌, ◌+◌, ◌*◌, ◌^◌, [], All, Contains, IfOk, OnErr, OnOk, false, filter, length, map, replicate};
-ghost use Rattle.std.specs.List.{list_any};
+ghost use Rattle.std.specs.Prelude.{◌≡◌, ◌≤◌, ◌<◌, ◌+◌, ◌*◌, ◌^◌, ℕ, [], All, Contains, IfOk, OnErr, OnOk, false, length, map, replicate};
 ghost use Rattle.ad_tree.specs.Ad.{ad_frames};
 ghost use Rattle.ad_store.specs.Store.{stock_of};
 ghost use Rattle.ad_candidates.specs.Rows.{rows_of};
@@ -12,16 +11,16 @@ ghost use Rattle.claim_table.specs.Table.{jobs_of};
 ghost use Rattle.literal_index.specs.Shown.{IsIndex};
 ghost use Rattle.negotiator.specs.Budget.{ArePaid, AreWithin, counts, entries_for, left_for, open_for, over_idle};
 ghost use Rattle.negotiator.specs.Clusters.{AreClusters};
-ghost use Rattle.negotiator.specs.Cycle.{cycle_from, cycle_of, is_of, offers_in, offers_of, places, spin, users_of, waits};
-ghost use Rattle.negotiator.specs.Markets.{AreOwn, IsPart, free_among, is_free, market_of, spin_named, with_offers};
+ghost use Rattle.negotiator.specs.Cycle.{Market, cycle_of, offers_in, offers_of, spin, users_of};
+ghost use Rattle.negotiator.specs.Markets.{AreOwn, IsPart, market_of, spin_named, with_offers};
 ghost use Rattle.claim_table.specs.Priorities.{priority_of};
-ghost use Rattle.negotiator.specs.Queues.{AreQueues};
+ghost use Rattle.negotiator.specs.Queues.{AreQueues, IsAhead};
 ghost use Rattle.negotiator.specs.Scenes.{IsReady, market_in, settings_in, stock_in, users_at};
 ghost use Rattle.claim_table.specs.Settings.{settings_of};
 ghost use Rattle.pie_slices.specs.Slices.{weight_of};
 
+use crate::free::free_count;
 use crate::queues::queues_of;
-use crate::search::is_idle;
 use crate::turns::run_turns;
 use crate::{Clusters, Cycle, Priorities, Queue, Scene, Spin};
 use ad_store::Store;
@@ -80,13 +79,13 @@ pub fn cycle<F: Ledger, E: Ledger, T: Ledger>(
         priorities,
         moment,
     };
-    let queues = queues_of(&scene, claims)?;
+    let mut queues = queues_of(&scene, claims)?;
     let mut failed = unmarked(alloc, claims.len())?;
-    let mut clusters = Clusters::new(alloc);
+    let mut clusters = Clusters::new(alloc, free_count(store, claims));
     run_spins(
         &scene,
         claims,
-        &queues,
+        &mut queues,
         &mut failed,
         &mut clusters,
         tops,
@@ -107,20 +106,22 @@ fn unmarked(alloc: Global, jobs: usize) -> Result<Vec<bool>, OutOfMemory>
 fn run_spins<F: Ledger, E: Ledger, T: Ledger>(
     scene: &Scene<'_>,
     claims: &mut ClaimTable,
-    queues: &[Queue],
+    queues: &mut [Queue],
     failed: &mut [bool],
     clusters: &mut Clusters,
     tops: &mut Steps<F>,
     entry: &mut Steps<E>,
     touch: &mut Steps<T>,
 ) -> Result<Cycle, OutOfMemory>
-    requires queues { AreQueues (market_in scene.now (jobs_of claims.old)) queues.now }
+    requires queues { AreQueues (market_in scene.now (jobs_of claims.old)) queues.old }
+    requires ahead { All (IsAhead (jobs_of claims.old) failed.old) queues.old }
     requires ready { IsReady scene.now (jobs_of claims.old) failed.old }
     requires clusters { AreClusters scene.now.moment (stock_in scene.now) (settings_in scene.now) (jobs_of claims.old) clusters.old }
     ensures cycle { IfOk result (λ spins. spins ≡ map (spin_named (jobs_of claims.old)) (cycle_of (market_in scene.now (jobs_of claims.old)))) }
     ensures table { OnOk result (jobs_of claims.new ≡ with_offers (offers_of (cycle_of (market_in scene.now (jobs_of claims.old)))) (jobs_of claims.old)) }
     ensures part { OnErr result (IsPart (offers_of (cycle_of (market_in scene.now (jobs_of claims.old)))) (jobs_of claims.old) (jobs_of claims.new)) }
-    ensures within { AreWithin scene.now.moment (stock_in scene.now) (settings_in scene.now) (jobs_of claims.old) failed.old (counts tops.old entry.old (touch.old + clusters.old.looks.saved)) (counts tops.new entry.new (touch.new + clusters.new.looks.saved)) }
+    ensures within { AreWithin scene.now.moment (stock_in scene.now) (settings_in scene.now) (jobs_of claims.old) failed.old
+        (counts tops.old entry.old (touch.old + clusters.old.looks.saved)) (counts tops.new entry.new (touch.new + clusters.new.looks.saved)) }
     ensures ratio { AreSmallAds (stock_in scene.now).ads → AreSmallJobs (jobs_of claims.old) → entry.new + 9216 * tops.old ≤ entry.old + 9216 * tops.new }
 {
     let mut spins = Cycle::new(scene.alloc);
@@ -138,27 +139,32 @@ fn run_spins<F: Ledger, E: Ledger, T: Ledger>(
 fn run_spin<F: Ledger, E: Ledger, T: Ledger>(
     scene: &Scene<'_>,
     claims: &mut ClaimTable,
-    queues: &[Queue],
+    queues: &mut [Queue],
     failed: &mut [bool],
     clusters: &mut Clusters,
     tops: &mut Steps<F>,
     entry: &mut Steps<E>,
     touch: &mut Steps<T>,
 ) -> Result<Spin, OutOfMemory>
-    requires queues { AreQueues (market_in scene.now (jobs_of claims.old)) queues.now }
+    requires queues { AreQueues (market_in scene.now (jobs_of claims.old)) queues.old }
+    requires ahead { All (IsAhead (jobs_of claims.old) failed.old) queues.old }
     requires ready { IsReady scene.now (jobs_of claims.old) failed.old }
     requires clusters { AreClusters scene.now.moment (stock_in scene.now) (settings_in scene.now) (jobs_of claims.old) clusters.old }
     ensures spin { IfOk result (λ one. one ≡ spin_named (jobs_of claims.old) (spin (market_in scene.now (jobs_of claims.old)) [])) }
     ensures table { OnOk result (jobs_of claims.new ≡ with_offers (offers_in (spin (market_in scene.now (jobs_of claims.old)) []).turns) (jobs_of claims.old)) }
     ensures part { OnErr result (IsPart (offers_in (spin (market_in scene.now (jobs_of claims.old)) []).turns) (jobs_of claims.old) (jobs_of claims.new)) }
+    ensures queues { OnOk result ((market : Market ℕ) → AreQueues market queues.old → AreQueues market queues.new) }
+    ensures ahead { OnOk result (All (IsAhead (jobs_of claims.new) failed.new) queues.new) }
     ensures ready { IsReady scene.now (jobs_of claims.new) failed.new }
     ensures clusters { AreClusters scene.now.moment (stock_in scene.now) (settings_in scene.now) (jobs_of claims.new) clusters.new }
-    ensures paid { OnOk result (ArePaid scene.now.moment (stock_in scene.now) (settings_in scene.now) (jobs_of claims.old) (jobs_of claims.new) failed.old failed.new (counts tops.old entry.old (touch.old + clusters.old.looks.saved)) (counts tops.new entry.new (touch.new + clusters.new.looks.saved))) }
-    ensures within { AreWithin scene.now.moment (stock_in scene.now) (settings_in scene.now) (jobs_of claims.old) failed.old (counts tops.old entry.old (touch.old + clusters.old.looks.saved)) (counts tops.new entry.new (touch.new + clusters.new.looks.saved)) }
+    ensures paid { OnOk result (ArePaid scene.now.moment (stock_in scene.now) (settings_in scene.now) (jobs_of claims.old) (jobs_of claims.new) failed.old
+        failed.new (counts tops.old entry.old (touch.old + clusters.old.looks.saved)) (counts tops.new entry.new (touch.new + clusters.new.looks.saved))) }
+    ensures within { AreWithin scene.now.moment (stock_in scene.now) (settings_in scene.now) (jobs_of claims.old) failed.old
+        (counts tops.old entry.old (touch.old + clusters.old.looks.saved)) (counts tops.new entry.new (touch.new + clusters.new.looks.saved)) }
     ensures ratio { AreSmallAds (stock_in scene.now).ads → AreSmallJobs (jobs_of claims.old) → entry.new + 9216 * tops.old ≤ entry.old + 9216 * tops.new }
 {
-    let free = free_count(scene.store, claims);
-    let active = active_of(scene, claims, queues)?;
+    let free = clusters.free;
+    let active = active_of(scene, claims, failed, queues)?;
     let weights = weights_of(scene, queues, active.as_slice())?;
     let slices = slices(scene.alloc, free, weights.as_slice())?;
     let turns = run_turns(
@@ -176,56 +182,29 @@ fn run_spin<F: Ledger, E: Ledger, T: Ledger>(
     Ok(Spin { free, turns })
 }
 
-// How many resources are neither offered nor claimed.
-fn free_count(store: &Store, claims: &ClaimTable) -> u64
-    ensures free { result ≡ free_among (stock_of store.now) (jobs_of claims.now) }
-    ensures few { result ≤ 10 ^ 4 }
-{
-    let mut free = 0;
-    for i in 0..store.len() {
-        if is_free_slot(claims, store.at(i)) {
-            free += 1;
-        }
-    }
-    free
-}
-
-// Whether a slot is neither offered nor claimed.
-fn is_free_slot(claims: &ClaimTable, slot: usize) -> bool
-    ensures { result ≡ is_free (jobs_of claims.now) slot }
-{
-    if claims.offered_to(slot).is_some() {
-        return false;
-    }
-    claims.claimed_by(slot).is_none()
-}
-
-// The numbers of the queues whose users have an idle job.
-fn active_of(scene: &Scene<'_>, claims: &ClaimTable, queues: &[Queue]) -> Result<Slots, OutOfMemory>
-    requires { AreQueues (market_in scene.now (jobs_of claims.now)) queues.now }
-    ensures users { IfOk result (λ active. users_at queues.now active ≡ users_of (market_in scene.now (jobs_of claims.now)) []) }
-    ensures within { IfOk result (All (λ k. k < length queues.now)) }
+// The numbers of the queues whose users have an idle job. The heads of the queues are moved on.
+fn active_of(
+    scene: &Scene<'_>,
+    claims: &ClaimTable,
+    failed: &[bool],
+    queues: &mut [Queue],
+) -> Result<Slots, OutOfMemory>
+    requires queues { AreQueues (market_in scene.now (jobs_of claims.now)) queues.old }
+    requires marks { length failed.now ≡ length (jobs_of claims.now) }
+    requires ahead { All (IsAhead (jobs_of claims.now) failed.now) queues.old }
+    ensures users { IfOk result (λ active. users_at queues.new active ≡ users_of (market_in scene.now (jobs_of claims.now)) []) }
+    ensures within { IfOk result (All (λ k. k < length queues.new)) }
+    ensures queues { OnOk result ((market : Market ℕ) → AreQueues market queues.old → AreQueues market queues.new) }
+    ensures ahead { OnOk result (All (IsAhead (jobs_of claims.now) failed.now) queues.new) }
 {
     let mut active = Slots::new(scene.alloc);
     for k in 0..queues.len() {
-        if has_idle(scene, claims, &queues[k]) {
+        queues[k].advance(claims, failed);
+        if queues[k].has_idle() {
             active.push(k)?;
         }
     }
     Ok(active)
-}
-
-// Whether the user of a queue has an idle job.
-fn has_idle(scene: &Scene<'_>, claims: &ClaimTable, queue: &Queue) -> bool
-    requires { queue.now.places ≡ filter (is_of (market_in scene.now (jobs_of claims.now)) queue.now.user) (places (market_in scene.now (jobs_of claims.now)).jobs) }
-    ensures { result ≡ list_any (waits (market_in scene.now (jobs_of claims.now)) queue.now.user []) (places (market_in scene.now (jobs_of claims.now)).jobs) }
-{
-    for place in queue.places.as_slice() {
-        if is_idle(claims, *place) {
-            return true;
-        }
-    }
-    false
 }
 
 // The weights of the users of these queues.

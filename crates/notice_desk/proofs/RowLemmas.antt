@@ -1,5 +1,6 @@
 -- The rows of a desk at a name that is there, and at one that is absent.
-use Rattle.std.proofs.Common.{◌≡◌, ◌≢◌, ℕ, zero, suc, ◌↔◌, Bool, true, false, cond, not, ◌&&◌, List, [], ◌∷◌, filter, slice_get, slice_set, remove, Option, None, Some, IsNone, IsSome, bytes_eq, is_some, true≢false, refl, sym, ◌∙◌, ap, subst}
+use Rattle.std.proofs.Common.{◌≡◌, ◌≢◌, ℕ, zero, suc, ◌↔◌, Bool, true, false, cond, not, ◌&&◌, List, [], ◌∷◌, filter, slice_get}
+use Rattle.std.proofs.Common.{slice_set, remove, Option, None, Some, IsNone, IsSome, bytes_eq, is_some, true≢false, refl, sym, ◌∙◌, ap, subst}
 use Rattle.std.specs.List.{AllZip}
 use Rattle.std.proofs.lemmas.List.Elements.{All-head, All-tail}
 use Rattle.notice_desk.specs.Desk.{Held, Row, HeldPosts, RowPosts, Posts, box_under, failures_under, leaves_with, names_of, without}
@@ -24,11 +25,14 @@ module _ (name : List ℕ) where
 
   pub failures-absent : (rows : List Row) → IsAbsent name (names_of rows) → failures_under name rows ≡ None
   failures-absent [] absent = refl
-  failures-absent (row ∷ rows) absent = ap (λ b. cond b (Some row.failures) (failures_under name rows)) (first row rows absent) ∙ failures-absent rows (later row rows absent)
+  failures-absent (row ∷ rows) absent =
+      ap (λ b. cond b (Some row.failures) (failures_under name rows)) (first row rows absent) ∙ failures-absent rows (later row rows absent)
 
   pub without-absent : (rows : List Row) → IsAbsent name (names_of rows) → without name rows ≡ rows
   without-absent [] absent = refl
-  without-absent (row ∷ rows) absent = ap (λ b. cond (not b) (row ∷ without name rows) (without name rows)) (first row rows absent) ∙ ap (λ rs. row ∷ rs) (without-absent rows (later row rows absent))
+  without-absent (row ∷ rows) absent =
+      ap (λ b. cond (not b) (row ∷ without name rows) (without name rows)) (first row rows absent)
+      ∙ ap (λ rs. row ∷ rs) (without-absent rows (later row rows absent))
 
   pub leaves-absent : (rows : List Row) → IsAbsent name (names_of rows) → filter (leaves_with name) rows ≡ []
   leaves-absent [] absent = refl
@@ -71,25 +75,35 @@ module _ (name : List ℕ) (row : Row) (named : row.name ≡ name) where
 
   pub box-there : (rows : List Row) (i : ℕ) → slice_get rows i ≡ Some row → AreDistinct (names_of rows) → box_under name rows ≡ row.held
   box-there [] i is apart = absurd (cc)
-  box-there (r ∷ rows) zero is apart = let same : r ≡ row = cc in ap (λ b. cond b r.held (box_under name rows)) (same_name r.name name (here r rows is)) ∙ ap (λ x. x.held) same
-  box-there (r ∷ rows) (suc i) is apart = ap (λ b. cond b r.held (box_under name rows)) (other_name r.name name (behind r rows i is apart)) ∙ box-there rows i is (distinct_tail r.name (names_of rows) apart)
+  box-there (r ∷ rows) zero is apart =
+      let same : r ≡ row = cc in ap (λ b. cond b r.held (box_under name rows)) (same_name r.name name (here r rows is)) ∙ ap (λ x. x.held) same
+  box-there (r ∷ rows) (suc i) is apart =
+      ap (λ b. cond b r.held (box_under name rows)) (other_name r.name name (behind r rows i is apart))
+      ∙ box-there rows i is (distinct_tail r.name (names_of rows) apart)
 
-  pub failures-there : (rows : List Row) (i : ℕ) → slice_get rows i ≡ Some row → AreDistinct (names_of rows) → failures_under name rows ≡ Some row.failures
+  pub failures-there : (rows : List Row) (i : ℕ) → slice_get rows i ≡ Some row → AreDistinct (names_of rows)
+      → failures_under name rows ≡ Some row.failures
   failures-there [] i is apart = absurd (cc)
-  failures-there (r ∷ rows) zero is apart = let same : r ≡ row = cc in ap (λ b. cond b (Some r.failures) (failures_under name rows)) (same_name r.name name (here r rows is)) ∙ ap (λ (x : Row). Some x.failures) same
-  failures-there (r ∷ rows) (suc i) is apart = ap (λ b. cond b (Some r.failures) (failures_under name rows)) (other_name r.name name (behind r rows i is apart)) ∙ failures-there rows i is (distinct_tail r.name (names_of rows) apart)
+  failures-there (r ∷ rows) zero is apart =
+      let same : r ≡ row =
+      cc in ap (λ b. cond b (Some r.failures) (failures_under name rows)) (same_name r.name name (here r rows is)) ∙ ap (λ (x : Row). Some x.failures) same
+  failures-there (r ∷ rows) (suc i) is apart =
+      ap (λ b. cond b (Some r.failures) (failures_under name rows)) (other_name r.name name (behind r rows i is apart))
+      ∙ failures-there rows i is (distinct_tail r.name (names_of rows) apart)
 
   pub without-there : (rows : List Row) (i : ℕ) → slice_get rows i ≡ Some row → AreDistinct (names_of rows) → remove rows i ≡ without name rows
   without-there [] i is apart = absurd (cc)
   without-there (r ∷ rows) zero is apart =
       let e = here r rows is in
-      sym (ap (λ b. cond (not b) (r ∷ without name rows) (without name rows)) (same_name r.name name e) ∙ without-absent name rows (none_behind r rows e apart))
+      sym (ap (λ b. cond (not b) (r ∷ without name rows) (without name rows)) (same_name r.name name e)
+      ∙ without-absent name rows (none_behind r rows e apart))
   without-there (r ∷ rows) (suc i) is apart =
       ap (λ rs. r ∷ rs) (without-there rows i is (distinct_tail r.name (names_of rows) apart))
       ∙ sym (ap (λ b. cond (not b) (r ∷ without name rows) (without name rows)) (other_name r.name name (behind r rows i is apart)))
 
   -- the row with the name leaves where it has a box
-  pub leaves-there : (rows : List Row) (i : ℕ) → slice_get rows i ≡ Some row → AreDistinct (names_of rows) → filter (leaves_with name) rows ≡ cond (is_some row.held) (row ∷ []) []
+  pub leaves-there : (rows : List Row) (i : ℕ) → slice_get rows i ≡ Some row → AreDistinct (names_of rows)
+      → filter (leaves_with name) rows ≡ cond (is_some row.held) (row ∷ []) []
   leaves-there [] i is apart = absurd (cc)
   leaves-there (r ∷ rows) zero is apart =
       let same : r ≡ row = cc in
@@ -98,15 +112,19 @@ module _ (name : List ℕ) (row : Row) (named : row.name ≡ name) where
       ∙ ap (λ rs. cond (is_some r.held) (r ∷ rs) rs) (leaves-absent name rows (none_behind r rows e apart))
       ∙ ap (λ (x : Row). cond (is_some x.held) (x ∷ []) []) same
   leaves-there (r ∷ rows) (suc i) is apart =
-      ap (λ b. cond (b && is_some r.held) (r ∷ filter (leaves_with name) rows) (filter (leaves_with name) rows)) (other_name r.name name (behind r rows i is apart))
+      ap (λ b. cond (b && is_some r.held) (r ∷ filter (leaves_with name) rows) (filter (leaves_with name) rows))
+      (other_name r.name name (behind r rows i is apart))
       ∙ leaves-there rows i is (distinct_tail r.name (names_of rows) apart)
 
-  pub posts-there : (notice : List ℕ) (end : PostEnd) (new : Row) (rows : List Row) (i : ℕ) → slice_get rows i ≡ Some row → AreDistinct (names_of rows) → RowPosts notice end row new → AllZip (Posts name notice end) rows (slice_set rows i new)
+  pub posts-there : (notice : List ℕ) (end : PostEnd) (new : Row) (rows : List Row) (i : ℕ) → slice_get rows i ≡ Some row
+      → AreDistinct (names_of rows) → RowPosts notice end row new → AllZip (Posts name notice end) rows (slice_set rows i new)
   posts-there notice end new [] i is apart posts = absurd (cc)
   posts-there notice end new (r ∷ rows) zero is apart posts =
       let same : r ≡ row = cc in
-      let e = here r rows is in
-      (record { under = λ _. subst (λ x. RowPosts notice end x new) (sym same) posts; others = λ ne. absurd (ne e) }, posts-absent name notice end rows (none_behind r rows e apart))
+      let e = here r rows is in (
+        record { under = λ _. subst (λ x. RowPosts notice end x new) (sym same) posts; others = λ ne. absurd (ne e) },
+        posts-absent name notice end rows (none_behind r rows e apart),
+      )
   posts-there notice end new (r ∷ rows) (suc i) is apart posts = (
     record { under = λ e. absurd (behind r rows i is apart e); others = λ ne. refl },
     posts-there notice end new rows i is (distinct_tail r.name (names_of rows) apart) posts,

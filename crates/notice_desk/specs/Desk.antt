@@ -1,5 +1,6 @@
 -- What contracts see of a desk: a row for each name, and what each call does to the rows.
-use Rattle.std.specs.Prelude.{◌≡◌, ◌≢◌, ℕ, Bool, true, false, not, ◌&&◌, List, [], ◌∷◌, map, filter, Option, None, Some, is_some, bytes_eq, if◌then◌else◌}
+use Rattle.std.specs.Prelude.{◌≡◌, ◌≢◌, ℕ, Bool, true, false, not, ◌&&◌, List, [], ◌∷◌, map, filter, Option, None, Some, is_some}
+use Rattle.std.specs.Prelude.{bytes_eq, if◌then◌else◌}
 use Rattle.pool_io.specs.Memory.{next_count}
 use Rattle.notice_desk.specs.Mail.{Taking, Takes, Refuses}
 use Rattle.notice_desk.specs.declared.notices.PostEnd.{PostEnd}

@@ -1,6 +1,8 @@
 // The desk: names, each with its box.
-ghost use Rattle.std.specs.Prelude.{◌≡◌, ◌+◌, ◌<◌, ◌≤◌, ◌↔◌, ◌∷◌, ◌++◌, [], count_by, filter, length, map, option_map, slice_get, sum_by, vec_capacity, vec_len, IfErr, IfNone, IfSome, IsErrAnd, IsNone, IsSome, IsTrue, OnErr, OnOk, Some};
-ghost use Rattle.notice_desk.specs.Desk.{Posts, box_under, boxed_row, failures_under, is_marked, leaves_with, marked_row, names_of, new_row, retired, told_by, without};
+ghost use Rattle.std.specs.Prelude.{◌≡◌, ◌+◌, ◌<◌, ◌≤◌, ◌↔◌, ◌∷◌, ◌++◌, [], count_by, filter, length, map, option_map, slice_get, sum_by, vec_capacity};
+ghost use Rattle.std.specs.Prelude.{vec_len, IfErr, IfNone, IfSome, IsErrAnd, IsNone, IsSome, IsTrue, OnErr, OnOk, Some};
+ghost use Rattle.notice_desk.specs.Desk.{Posts, box_under, boxed_row, failures_under, is_marked, leaves_with, marked_row, names_of, new_row, retired, told_by};
+ghost use Rattle.notice_desk.specs.Desk.{without};
 ghost use Rattle.notice_desk.specs.Faults.{box_of, is_in_use};
 ghost use Rattle.notice_desk.specs.Names.{AreDistinct, IsAbsent};
 ghost use Rattle.notice_desk.specs.Sight.{boxes, entry_names, left_rows, row_of, rows_of};

@@ -68,7 +68,8 @@ impl Mailbox for MemoryMailbox {
     fn deliver(&mut self, notice: &[u8]) -> Result<(), Failed>
         ensures took { OnOk result (Takes (told self.old) (told self.new) notice.now) }
         ensures failed { OnErr result (Refuses (told self.old) (told self.new)) }
-        ensures exactly { IsErr result ↔ (IsTrue (is_listed self.old.failing self.old.calls) ⊎ (self.old.room < length self.old.taken + length notice.now + 1)) }
+        ensures exactly { IsErr result ↔ (IsTrue (is_listed self.old.failing self.old.calls) ⊎
+            (self.old.room < length self.old.taken + length notice.now + 1)) }
         ensures kept { OnOk result (self.new.faults ≡ self.old.faults) }
         ensures counted { OnErr result (self.new.faults ≡ next_count self.old.faults) }
         ensures same { (self.new.room ≡ self.old.room) × (self.new.failing ≡ self.old.failing) }

@@ -1,5 +1,6 @@
 -- No reply is empty, so a sink that took nothing took no reply.
-use Rattle.std.proofs.Common.{◌≡◌, ◌≢◌, ℕ, ◌<◌, ◌==◌, Bool, true, false, List, [], ◌∷◌, ◌++◌, codes, length, nat_lt, if◌then◌else◌, nat_le, ◌+◌, Option, None, Some, Result, Ok, Err, refl, sym, ◌∙◌, ap, subst, arith, length-append}
+use Rattle.std.proofs.Common.{◌≡◌, ◌≢◌, ℕ, ◌<◌, ◌==◌, Bool, true, false, List, [], ◌∷◌, ◌++◌, codes, length, nat_lt}
+use Rattle.std.proofs.Common.{if◌then◌else◌, nat_le, ◌+◌, Option, None, Some, Result, Ok, Err, refl, sym, ◌∙◌, ap, subst, arith, length-append}
 use Rattle.ad_tree.specs.Inline.{Inline, ad_of, phrase_of, phrase_tree}
 use Rattle.ad_tree.specs.Tree.{Tree}
 use Rattle.ad_tree.specs.Frames.{Frame}
@@ -51,7 +52,8 @@ use Rattle.pool_state.specs.State.{JobStanding, QueuedJob, State, claimed, idle,
 use Rattle.pool_state.specs.Heard.{Heard, is_unlisten, listens, step_heard}
 use Rattle.pool_state.proofs.HeardLemmas.{heard-other}
 use Rattle.pool_state.specs.Claiming.{checked, claim, claim_as, first_failing, job_named, losers, release, release_as, restood, without_holders}
-use Rattle.pool_state.specs.Step.{ad_named, advertise, clock, eval, eval_beside, eval_in, put_ad, query, refused, remove, room_of, set_priority, show, step, submit, take_job, withdraw}
+use Rattle.pool_state.specs.Step.{ad_named, advertise, clock, eval, eval_beside, eval_in, put_ad, query, refused, remove, room_of, set_priority, show, step}
+use Rattle.pool_state.specs.Step.{submit, take_job, withdraw}
 
 -- ---- no reply is empty
 
@@ -224,7 +226,8 @@ told_fault faults.Frames other = refl
 told_fault faults.Attributes other = refl
 told_fault faults.OutOfMemory other = absurd (other refl)
 
-advertise_told : (s : State) (name text : List ℕ) (lifetime size : ℕ) (outcome : Result Inline ParseFault) → HasAdOutcome text outcome → IsTold (advertise s name lifetime size outcome)
+advertise_told : (s : State) (name text : List ℕ) (lifetime size : ℕ) (outcome : Result Inline ParseFault) → HasAdOutcome text outcome
+    → IsTold (advertise s name lifetime size outcome)
 advertise_told s name text lifetime size (Ok x) has_outcome = put_told s _ (lack name size s.ads)
 advertise_told s name text lifetime size (Err fault) has_outcome = text_told s fault (told_fault fault has_outcome.1)
 
@@ -245,7 +248,8 @@ job_told s name = by (job_named name s.jobs)
     by None = unknown_told s
     by (Some job) = shown_told s _
 
-eval_told : (s : State) (moment : ℕ) (text : List ℕ) (outcome : Result Inline ParseFault) → HasExprOutcome text outcome → IsTold (s, eval moment outcome)
+eval_told : (s : State) (moment : ℕ) (text : List ℕ) (outcome : Result Inline ParseFault) → HasExprOutcome text outcome
+    → IsTold (s, eval moment outcome)
 eval_told s moment text (Ok x) has_outcome = evaluated_told s _
 eval_told s moment text (Err fault) has_outcome = text_told s fault (told_fault fault has_outcome.1)
 
@@ -253,18 +257,22 @@ beside_told : (s : State) (moment : ℕ) (frames : List Frame) (t : Tree) (found
 beside_told s moment frames t None = unknown_told s
 beside_told s moment frames t (Some advert) = evaluated_told s _
 
-eval_in_told : (s : State) (moment : ℕ) (ads : List Advert) (name text : List ℕ) (outcome : Result Inline ParseFault) → HasExprOutcome text outcome → IsTold (s, eval_in moment ads name outcome)
+eval_in_told : (s : State) (moment : ℕ) (ads : List Advert) (name text : List ℕ) (outcome : Result Inline ParseFault) → HasExprOutcome text outcome
+    → IsTold (s, eval_in moment ads name outcome)
 eval_in_told s moment ads name text (Ok x) has_outcome = beside_told s moment (phrase_of x) (phrase_tree x) (ad_named name ads)
 eval_in_told s moment ads name text (Err fault) has_outcome = text_told s fault (told_fault fault has_outcome.1)
 
-query_told : (s : State) (moment : ℕ) (ads : List Advert) (text : List ℕ) (outcome : Result Inline ParseFault) → HasAdOutcome text outcome → IsTold (s, query moment ads outcome)
+query_told : (s : State) (moment : ℕ) (ads : List Advert) (text : List ℕ) (outcome : Result Inline ParseFault) → HasAdOutcome text outcome
+    → IsTold (s, query moment ads outcome)
 query_told s moment ads text (Ok x) has_outcome = hits_told s _
 query_told s moment ads text (Err fault) has_outcome = text_told s fault (told_fault fault has_outcome.1)
 
-gang_told : (s : State) (moment : ℕ) (ads : List Advert) (settings : List Setting) (jobs : List QueuedJob) (text : List ℕ) (outcome : Result Inline ParseFault) → HasAdOutcome text outcome → IsTold (s, gang moment ads settings jobs outcome)
+gang_told : (s : State) (moment : ℕ) (ads : List Advert) (settings : List Setting) (jobs : List QueuedJob) (text : List ℕ)
+    (outcome : Result Inline ParseFault) → HasAdOutcome text outcome → IsTold (s, gang moment ads settings jobs outcome)
 gang_told s moment ads settings jobs text (Ok x) has_outcome = by (ports_of (ad_of x))
   where
-    by : (listed : Option (List Port)) → IsTold (s, option_map_or (λ ports. line (gang_names moment ads settings jobs (ad_of x) ports)) listed (reply.Refused why.BadPorts))
+    by : (listed : Option (List Port))
+        → IsTold (s, option_map_or (λ ports. line (gang_names moment ads settings jobs (ad_of x) ports)) listed (reply.Refused why.BadPorts))
     by None = bad_ports_told s
     by (Some ports) = names_told s (gang_names moment ads settings jobs (ad_of x) ports)
 gang_told s moment ads settings jobs text (Err fault) has_outcome = text_told s fault (told_fault fault has_outcome.1)
@@ -284,19 +292,24 @@ take_told : (s : State) (job : QueuedJob) (reason : Option Refusal) → IsRefusa
 take_told s job (Some reason) told = told
 take_told s job None told = holds_if IsTold (has_bad_ports job.ad) (refused s why.BadPorts) _ (bad_ports_told s) (submitted_told s job.name)
 
-submit_told : (s : State) (name user text : List ℕ) (size : ℕ) (outcome : Result Inline ParseFault) → HasAdOutcome text outcome → IsTold (submit s name user size outcome)
-submit_told s name user text size (Ok x) has_outcome = take_told s (record { name = name; user = user; size = size; ad = ad_of x; standing = idle }) (job_refusal name size s.jobs) (refusal_told s name size s.jobs)
+submit_told : (s : State) (name user text : List ℕ) (size : ℕ) (outcome : Result Inline ParseFault) → HasAdOutcome text outcome
+    → IsTold (submit s name user size outcome)
+submit_told s name user text size (Ok x) has_outcome =
+    take_told s (record { name = name; user = user; size = size; ad = ad_of x; standing = idle }) (job_refusal name size s.jobs)
+    (refusal_told s name size s.jobs)
 submit_told s name user text size (Err fault) has_outcome = text_told s fault (told_fault fault has_outcome.1)
 
 remove_told : (s : State) (name : List ℕ) → IsTold (remove s name)
 remove_told s name = holds_if IsTold (has_job name s.jobs) _ (refused s why.UnknownName) (removed_told s name) (unknown_told s)
 
 set_priority_told : (s : State) (user : List ℕ) (n : ℕ) → IsTold (set_priority s user n)
-set_priority_told s user n = holds_if IsTold (lacks_place user s.priorities) (refused s (why.Full room.Users)) _ (full_told s room.Users) (priority_told s user n)
+set_priority_told s user n =
+    holds_if IsTold (lacks_place user s.priorities) (refused s (why.Full room.Users)) _ (full_told s room.Users) (priority_told s user n)
 
 checked_told : (s : State) (job : QueuedJob) (names : List (List ℕ)) (failing : Option (List ℕ)) → IsTold (checked s job names failing)
 checked_told s job names (Some name) = stale_told (record s { jobs = restood job.name idle s.jobs }) name
-checked_told s job names None = claimed_told (record s { jobs = restood job.name (claimed names) (without_holders names s.jobs) }) job.name names (losers s.jobs names)
+checked_told s job names None =
+    claimed_told (record s { jobs = restood job.name (claimed names) (without_holders names s.jobs) }) job.name names (losers s.jobs names)
 
 claim_as_told : (s : State) (job : QueuedJob) (standing : JobStanding) → IsTold (claim_as s job standing)
 claim_as_told s job idle = idle_told s
@@ -337,7 +350,8 @@ explain_job_told s job (port ∷ ports) = gang_job_told s
 explain_told : (s : State) (name : List ℕ) → IsTold (s, explain s.moment s.ads s.jobs name)
 explain_told s name = by (job_named name s.jobs)
   where
-    by : (found : Option QueuedJob) → IsTold (s, option_map_or (λ job. explain_job s.moment s.ads job (ports_in job.ad)) found (reply.Refused why.UnknownName))
+    by : (found : Option QueuedJob)
+        → IsTold (s, option_map_or (λ job. explain_job s.moment s.ads job (ports_in job.ad)) found (reply.Refused why.UnknownName))
     by None = unknown_told s
     by (Some job) = explain_job_told s job (ports_in job.ad)
 
@@ -383,7 +397,9 @@ heard_told h c = by c refl
     same other = subst (λ (p : Heard × Reply). 0 < length (reply_text p.1)) (sym (heard-other h c other)) (step_told h.pool c)
 
     taken : (name : List ℕ) → c ≡ command.Unlisten name → 0 < length (reply_text (step_heard h c).1)
-    taken name is = subst (λ (d : Command). 0 < length (reply_text (step_heard h d).1)) (sym is) (holds_if (λ (p : Heard × Reply). 0 < length (reply_text p.1)) (listens name h.listeners) _ _ (unlistened_told name) (unknown_told h.pool))
+    taken name is =
+        subst (λ (d : Command). 0 < length (reply_text (step_heard h d).1)) (sym is)
+        (holds_if (λ (p : Heard × Reply). 0 < length (reply_text p.1)) (listens name h.listeners) _ _ (unlistened_told name) (unknown_told h.pool))
 
     by : (b : Command) → c ≡ b → 0 < length (reply_text (step_heard h c).1)
     by (command.Unlisten name) is = taken name is
@@ -414,11 +430,13 @@ heard_told h c = by c refl
 -- replies whose text is empty are none
 no_commands : (s : Heard) (commands : List Command) → length (text_of pool_rules s commands) ≡ 0 → commands ≡ []
 no_commands s [] none = refl
-no_commands s (c ∷ commands) none = absurd (omega (arith, none, heard_told s c, length-append (reply_text (step_heard s c).1) (text_of pool_rules (step_heard s c).0 commands)))
+no_commands s (c ∷ commands) none =
+    absurd (omega (arith, none, heard_told s c, length-append (reply_text (step_heard s c).1) (text_of pool_rules (step_heard s c).0 commands)))
 
 -- where a write failed and the sink took nothing, it was offered the first reply alone and whole, and no command had ended before
 -- the last read
-pub replies_first : (start : Heard) (s t : Supply) (k m : Effects) (fault : IsWriteFault pool_rules start s t k m) (known : List ℕ) → k.sink.taken ≡ Some known → m.sink.taken ≡ Some known → RepliesFirst start t m fault.bytes fault.front fault.cut
+pub replies_first : (start : Heard) (s t : Supply) (k m : Effects) (fault : IsWriteFault pool_rules start s t k m) (known : List ℕ)
+    → k.sink.taken ≡ Some known → m.sink.taken ≡ Some known → RepliesFirst start t m fault.bytes fault.front fault.cut
 replies_first start s t k m fault known from to =
     let answers = answers_first pool_rules pool_lawful start s t k m fault known from to in
     let first = no_commands start fault.front (ap length answers.first) in

@@ -1,5 +1,6 @@
 -- The mailboxes that the words of a command line ask for.
-use Rattle.std.specs.Prelude.{ℕ, ◌+◌, Bool, false, not, ◌&&◌, ◌||◌, ◌==◌, List, [], ◌∷◌, bytes_eq, drop, position, take, Option, None, Some, option_and_then, if◌then◌else◌}
+use Rattle.std.specs.Prelude.{ℕ, ◌+◌, Bool, false, not, ◌&&◌, ◌||◌, ◌==◌, List, [], ◌∷◌, bytes_eq, drop, position, take, Option, None}
+use Rattle.std.specs.Prelude.{Some, option_and_then, if◌then◌else◌}
 use Rattle.pool_script.specs.Names.{is_name}
 use Rattle.pool_text.specs.Words.{is_empty}
 use Rattle.pool_engine.specs.declared.mail.Mail.{Mail}
@@ -10,7 +11,8 @@ mail name file = record { name = name; file = file }
 
 -- the parts before and behind a place, where they are a name and a file
 abbrev pub divided_at : List ℕ → ℕ → Option Mail
-divided_at word place = if is_name (take place word) && not (is_empty (drop (place + 1) word)) then Some (mail (take place word) (drop (place + 1) word)) else None
+divided_at word place =
+    if is_name (take place word) && not (is_empty (drop (place + 1) word)) then Some (mail (take place word) (drop (place + 1) word)) else None
 
 -- `NAME=FILE`, divided at the first `=`; the file isn't empty
 abbrev pub mail_of : List ℕ → Option Mail

@@ -65,7 +65,8 @@ pub fn run_pool<S: Source, K: Sink, D: Notices, F: Ledger, E: Ledger, T: Ledger>
 
     // The same for every source, by the bytes that it gave, while 64 bits count them: the end by length comes exactly where one byte
     // more was given than an input may have. No read comes behind the end.
-    ensures answered { asked_by words.now ≢ Asked.Bad → (S.shows source.old).given + (input_limit + 1) < 2 ^ 64 - 1 → (S.shows source.new).given ≤ (S.shows source.old).given + input_limit
+    ensures answered { asked_by words.now ≢ Asked.Bad → (S.shows source.old).given + (input_limit + 1) < 2 ^ 64 - 1
+        → (S.shows source.new).given ≤ (S.shows source.old).given + input_limit
         → ¬ Rose (S.shows source.old).faults (S.shows source.new).faults
         → ¬ Rose (K.shows sink.old).faults (K.shows sink.new).faults
         → IsDoneOrOutOfMemory result }
@@ -113,7 +114,8 @@ pub fn run_and_keep<S: Source, K: Sink, D: Notices, F: Ledger, E: Ledger, T: Led
 
     // The same for every source, by the bytes that it gave, while 64 bits count them: the end by length comes exactly where one byte
     // more was given than an input may have. No read comes behind the end.
-    ensures answered { asked_by words.now ≢ Asked.Bad → (S.shows source.old).given + (input_limit + 1) < 2 ^ 64 - 1 → (S.shows source.new).given ≤ (S.shows source.old).given + input_limit
+    ensures answered { asked_by words.now ≢ Asked.Bad → (S.shows source.old).given + (input_limit + 1) < 2 ^ 64 - 1
+        → (S.shows source.new).given ≤ (S.shows source.old).given + input_limit
         → ¬ Rose (S.shows source.old).faults (S.shows source.new).faults
         → ¬ Rose (K.shows sink.old).faults (K.shows sink.new).faults
         → IsDoneOrOutOfMemory result.0 }
@@ -219,7 +221,8 @@ fn run_wire<S: Source, K: Sink, D: Notices, F: Ledger, E: Ledger, T: Ledger>(
     requires customers { IsNumber 100 customers }
     ensures ends { Ends wire_rules (new_wire resources customers) (S.shows source.old) (S.shows source.new)
         (effects (K.shows sink.old) tops.old touch.old (D.shows desk.old)) (effects (K.shows sink.new) tops.new touch.new (D.shows desk.new)) result }
-    ensures quiet { (effects (K.shows sink.new) tops.new touch.new (D.shows desk.new)).others ≡ (effects (K.shows sink.old) tops.old touch.old (D.shows desk.old)).others }
+    ensures quiet { (effects (K.shows sink.new) tops.new touch.new (D.shows desk.new)).others
+        ≡ (effects (K.shows sink.old) tops.old touch.old (D.shows desk.old)).others }
     ensures ratio { entry.new + 9216 * tops.old ≤ entry.old + 9216 * tops.new }
     ensures words { result ≢ RunEnd.BadWords }
     ensures complete { LeavesAtMost input_limit (S.shows source.old).left

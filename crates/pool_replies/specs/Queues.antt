@@ -23,7 +23,8 @@ jobs_text rows = codes "jobs " ++ decimal (length rows) ++ codes "\n" ++ flat_ma
 
 -- ` idle I matched M claimed C`
 abbrev pub counts_text : JobCounts → List ℕ
-counts_text counts = codes " idle " ++ decimal counts.idle ++ codes " matched " ++ decimal counts.matched ++ codes " claimed " ++ decimal counts.claimed ++ codes "\n"
+counts_text counts =
+    codes " idle " ++ decimal counts.idle ++ codes " matched " ++ decimal counts.matched ++ codes " claimed " ++ decimal counts.claimed ++ codes "\n"
 
 -- `USER PRIORITY` and the numbers of jobs
 abbrev pub user_line : UserRow → List ℕ

@@ -53,7 +53,8 @@ gang_text names = codes "gang" ++ with_blanks names ++ codes "\n"
 
 -- `claimed JOB` and the names, and a line for each job that lost its claim
 abbrev pub claimed_text : List ℕ → List (List ℕ) → List (List ℕ) → List ℕ
-claimed_text job names preempted = codes "claimed " ++ job ++ with_blanks names ++ codes "\n" ++ flat_map (λ loser. name_line (codes "preempted ") loser) preempted
+claimed_text job names preempted =
+    codes "claimed " ++ job ++ with_blanks names ++ codes "\n" ++ flat_map (λ loser. name_line (codes "preempted ") loser) preempted
 
 -- the lines of a reply
 unfoldable pub reply_text : Reply → List ℕ

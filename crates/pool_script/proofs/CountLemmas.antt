@@ -1,5 +1,6 @@
 -- How many commands there are, and which come first.
-use Rattle.std.proofs.Common.{◌≡◌, ℕ, ◌+◌, ◌≤◌, Bool, true, false, ◌||◌, List, [], ◌∷◌, ◌++◌, length, map, Option, None, Some, refl, sym, ◌∙◌, ap, inl, inr, arith, append_assoc, length-append, length-drop}
+use Rattle.std.proofs.Common.{◌≡◌, ℕ, ◌+◌, ◌≤◌, Bool, true, false, ◌||◌, List, [], ◌∷◌, ◌++◌, length, map, Option, None, Some, refl, sym, ◌∙◌, ap, inl, inr}
+use Rattle.std.proofs.Common.{arith, append_assoc, length-append, length-drop}
 use Rattle.std.proofs.lemmas.Bool.{cases_Bool}
 use Rattle.std.proofs.lemmas.List.{length-map, map-append}
 use Rattle.std.specs.Bool.{if◌then◌else◌}
@@ -15,11 +16,15 @@ use Rattle.pool_script.specs.declared.reader.Block.{Block}
 use Rattle.pool_script.proofs.LongLemmas.{takes_block-long}
 
 -- the commands of more lines come behind those of the lines before them
-commands-append : (over : Bool) (block : Option Block) (lines more : List (List ℕ)) → (behind : Option Block) × (commands over block (lines ++ more) ≡ commands false block lines ++ commands over behind more)
+commands-append : (over : Bool) (block : Option Block) (lines more : List (List ℕ))
+    → (behind : Option Block) × (commands over block (lines ++ more) ≡ commands false block lines ++ commands over behind more)
 commands-append over block [] more = (block, refl)
 commands-append over block (line ∷ lines) more =
-    let later = commands-append over (next block line) lines more in
-    (later.0, ap (λ (made : List Command). given block line ++ made) later.1 ∙ sym (append_assoc (given block line) (commands false (next block line) lines) (commands over later.0 more)))
+    let later = commands-append over (next block line) lines more in (
+      later.0,
+      ap (λ (made : List Command). given block line
+          ++ made) later.1 ∙ sym (append_assoc (given block line) (commands false (next block line) lines) (commands over later.0 more)),
+    )
 
 -- the commands that have ended within some bytes are the first of those that have ended within more
 pub ended_before_more : (bytes more : List ℕ) → (others : List Command) × (ended_commands (bytes ++ more) ≡ ended_commands bytes ++ others)
@@ -33,7 +38,8 @@ ended_before_whole bytes more =
     let last = last_line (rest_of (bytes ++ more)) in
     let later = commands-append true None (ended bytes) (ended (rest_of bytes ++ more) ++ last) in (
       commands true later.0 (ended (rest_of bytes ++ more) ++ last),
-      ap (λ (lines : List (List ℕ)). commands true None (lines ++ last)) (ended-append bytes more) ∙ ap (λ (lines : List (List ℕ)). commands true None lines) (append_assoc (ended bytes) (ended (rest_of bytes ++ more)) last) ∙ later.1,
+      ap (λ (lines : List (List ℕ)). commands true None (lines ++ last)) (ended-append bytes more)
+          ∙ ap (λ (lines : List (List ℕ)). commands true None lines) (append_assoc (ended bytes) (ended (rest_of bytes ++ more)) last) ∙ later.1,
     )
 
 -- a block that is open owes one command
@@ -41,7 +47,8 @@ abbrev owed : Option Block → ℕ
 owed None = 0
 owed (Some block) = 1
 
-owes_outside : (silent takes : Bool) (command : Command) (block : Block) → length (if silent || takes then [] else command ∷ []) + owed (if takes then Some block else None) ≤ 1
+owes_outside : (silent takes : Bool) (command : Command) (block : Block)
+    → length (if silent || takes then [] else command ∷ []) + owed (if takes then Some block else None) ≤ 1
 owes_outside true true command block = omega arith
 owes_outside true false command block = omega arith
 owes_outside false true command block = omega arith
@@ -112,5 +119,7 @@ lines_before_whole bytes more =
     let last = last_line (rest_of (bytes ++ more)) in
     let behind : List (List ℕ) = ended (rest_of bytes ++ more) ++ last in (
       map given_line behind,
-      ap (λ (lines : List (List ℕ)). map given_line (lines ++ last)) (ended-append bytes more) ∙ ap (λ (lines : List (List ℕ)). map given_line lines) (append_assoc (ended bytes) (ended (rest_of bytes ++ more)) last) ∙ map-append given_line (ended bytes) behind,
+      ap (λ (lines : List (List ℕ)). map given_line (lines ++ last)) (ended-append bytes more)
+          ∙ ap (λ (lines : List (List ℕ)). map given_line lines) (append_assoc (ended bytes) (ended (rest_of bytes ++ more)) last)
+          ∙ map-append given_line (ended bytes) behind,
     )

@@ -1,5 +1,6 @@
 -- Lines at a line feed, of bytes with no line feed before it.
-use Rattle.std.proofs.Common.{◌≡◌, ℕ, zero, suc, ◌-◌, ◌+◌, ◌≤◌, ◌<◌, Bool, true, false, eqb, List, [], ◌∷◌, ◌++◌, length, take, drop, get_or, refl, sym, ◌∙◌, ap, None, Some, inl, inr, arith, add-one, append_assoc, drop-cons}
+use Rattle.std.proofs.Common.{◌≡◌, ℕ, zero, suc, ◌-◌, ◌+◌, ◌≤◌, ◌<◌, Bool, true, false, eqb, List, [], ◌∷◌, ◌++◌, length, take, drop, get_or, refl, sym, ◌∙◌}
+use Rattle.std.proofs.Common.{ap, None, Some, inl, inr, arith, add-one, append_assoc, drop-cons}
 use Rattle.std.proofs.Math.Seq.{take-length}
 use Rattle.std.proofs.lemmas.Bool.{cases_Bool, eqb-true}
 use Rattle.std.proofs.lemmas.List.{length-drop, take-append-drop, take_all}
@@ -56,13 +57,15 @@ pub rest_feed : (line more : List ℕ) → ended line ≡ [] → rest_of (line +
 rest_feed [] more none = refl
 rest_feed (x ∷ line) more none =
     let first = none_step x line none in
-    rest_onto x (line ++ 10 ∷ more) first.0 ∙ ap (λ (lines : List (List ℕ)). rest_behind lines x (rest_of (line ++ 10 ∷ more))) (ended_feed line more first.1) ∙ rest_feed line more first.1
+    rest_onto x (line ++ 10 ∷ more) first.0 ∙ ap (λ (lines : List (List ℕ)). rest_behind lines x (rest_of (line ++ 10 ∷ more))) (ended_feed line more first.1)
+    ∙ rest_feed line more first.1
 
 -- a line that has ended is the first of the lines
 pub lines_feed : (over : Bool) (line more : List ℕ) → ended line ≡ [] → lines_of over (line ++ 10 ∷ more) ≡ line ∷ lines_of over more
 lines_feed false line more none = ended_feed line more none
 lines_feed true line more none =
-    ap (λ (lines : List (List ℕ)). lines ++ last_line (rest_of (line ++ 10 ∷ more))) (ended_feed line more none) ∙ ap (λ (rest : List ℕ). (line ∷ ended more) ++ last_line rest) (rest_feed line more none)
+    ap (λ (lines : List (List ℕ)). lines ++ last_line (rest_of (line ++ 10 ∷ more))) (ended_feed line more none)
+    ∙ ap (λ (rest : List ℕ). (line ∷ ended more) ++ last_line rest) (rest_feed line more none)
 
 -- lines of which none holds a line feed
 abbrev pub AreLines : List (List ℕ) → Type 0
@@ -82,10 +85,13 @@ are_lines (x ∷ bytes) =
     ]
 
 -- lines that have ended are the first of the lines
-pub lines_feeds : (over : Bool) (lines : List (List ℕ)) (more : List ℕ) → AreLines lines → lines_of over (with_feeds lines ++ more) ≡ lines ++ lines_of over more
+pub lines_feeds : (over : Bool) (lines : List (List ℕ)) (more : List ℕ) → AreLines lines
+    → lines_of over (with_feeds lines ++ more) ≡ lines ++ lines_of over more
 lines_feeds over [] more are = refl
 lines_feeds over (line ∷ lines) more are =
-    ap (λ (bytes : List ℕ). lines_of over bytes) (append_assoc (line ++ 10 ∷ []) (with_feeds lines) more ∙ append_assoc line (10 ∷ []) (with_feeds lines ++ more)) ∙ lines_feed over line (with_feeds lines ++ more) are.0 ∙ ap (λ (rest : List (List ℕ)). line ∷ rest) (lines_feeds over lines more are.1)
+    ap (λ (bytes : List ℕ). lines_of over bytes) (append_assoc (line ++ 10 ∷ []) (with_feeds lines) more
+    ∙ append_assoc line (10 ∷ []) (with_feeds lines ++ more)) ∙ lines_feed over line (with_feeds lines ++ more) are.0
+    ∙ ap (λ (rest : List (List ℕ)). line ∷ rest) (lines_feeds over lines more are.1)
 
 no_feed_at : (bytes : List ℕ) (k : ℕ) → ¬ (eqb (get_or bytes k 0) 10 ≡ true) → eqb (get_or bytes k 0) 10 ≡ false
 no_feed_at bytes k other =
@@ -103,21 +109,27 @@ ended_none-before (x ∷ bytes) (suc n) fits before =
 
 -- bytes without a line feed end no line
 pub ended_none-nowhere : (bytes : List ℕ) → IsFirstByte (is_byte 10) bytes None → ended bytes ≡ []
-ended_none-nowhere bytes nowhere = ap (λ (l : List ℕ). ended l) (sym (take-length bytes)) ∙ ended_none-before bytes (length bytes) (omega arith) (λ k below. no_feed_at bytes k (nowhere k (omega arith) below))
+ended_none-nowhere bytes nowhere =
+    ap (λ (l : List ℕ). ended l) (sym (take-length bytes))
+    ∙ ended_none-before bytes (length bytes) (omega arith) (λ k below. no_feed_at bytes k (nowhere k (omega arith) below))
 
 -- bytes with a line feed are cut at the first one
-pub cuts_at_first : (bytes : List ℕ) (n : ℕ) → IsFirstByte (is_byte 10) bytes (Some n) → CutsAtFeed bytes (take n bytes) (take (n + 1) bytes) (drop (n + 1) bytes)
+pub cuts_at_first : (bytes : List ℕ) (n : ℕ) → IsFirstByte (is_byte 10) bytes (Some n)
+    → CutsAtFeed bytes (take n bytes) (take (n + 1) bytes) (drop (n + 1) bytes)
 cuts_at_first bytes n first =
     let below : n < length bytes = first.0.high in
     let feed : get_or bytes n 0 ≡ 10 = eqb-true (get_or bytes n 0) 10 first.1 in
     record {
       one_line = ended_none-before bytes n (omega arith) (λ k before. no_feed_at bytes k (first.0.before k (omega arith) before));
       feed = (take_at_read bytes n 0 below).1 ∙ ap (λ (x : ℕ). take n bytes ++ x ∷ []) feed;
-      parts = ap (λ (x : ℕ). take n bytes ++ x ∷ drop (n + 1) bytes) (sym feed) ∙ ap (λ (m : ℕ). take n bytes ++ get_or bytes n 0 ∷ drop m bytes) (add-one n) ∙ ap (λ (rest : List ℕ). take n bytes ++ rest) (sym (drop-cons bytes n 0 below)) ∙ take-append-drop n bytes;
+      parts =
+          ap (λ (x : ℕ). take n bytes ++ x ∷ drop (n + 1) bytes) (sym feed) ∙ ap (λ (m : ℕ). take n bytes ++ get_or bytes n 0 ∷ drop m bytes) (add-one n)
+          ∙ ap (λ (rest : List ℕ). take n bytes ++ rest) (sym (drop-cons bytes n 0 below)) ∙ take-append-drop n bytes;
     }
 
 rest_is : (bytes : List ℕ) (n : ℕ) → take (length bytes - n) (drop n bytes) ≡ drop n bytes
 rest_is bytes n = take_all (length bytes - n) (drop n bytes) (omega (arith, length-drop n bytes))
 
-pub cuts_at_place : (bytes : List ℕ) (n : ℕ) → IsFirstByte (is_byte 10) bytes (Some n) → CutsAtFeed bytes (take n bytes) (take (n + 1) bytes) (take (length bytes - (n + 1)) (drop (n + 1) bytes))
+pub cuts_at_place : (bytes : List ℕ) (n : ℕ) → IsFirstByte (is_byte 10) bytes (Some n)
+    → CutsAtFeed bytes (take n bytes) (take (n + 1) bytes) (take (length bytes - (n + 1)) (drop (n + 1) bytes))
 cuts_at_place bytes n first = rw (rest_is bytes (n + 1)) (cuts_at_first bytes n first)

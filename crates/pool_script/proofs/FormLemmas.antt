@@ -1,5 +1,6 @@
 -- Every command that a line gives is within form.
-use Rattle.std.proofs.Common.{◌≡◌, ℕ, ◌≤◌, ◌^◌, Bool, true, false, not, ◌&&◌, ◌||◌, eqb, nat_le, slice_index, List, [], ◌∷◌, length, Option, None, Some, option_and_then, refl, sym, inl, inr, arith}
+use Rattle.std.proofs.Common.{◌≡◌, ℕ, ◌≤◌, ◌^◌, Bool, true, false, not, ◌&&◌, ◌||◌, eqb, nat_le, slice_index, List, [], ◌∷◌, length, Option, None, Some}
+use Rattle.std.proofs.Common.{option_and_then, refl, sym, inl, inr, arith}
 use Rattle.std.proofs.lemmas.Bool.{cases_Bool}
 use Rattle.std.proofs.lemmas.Bool.Decides.{nat_tests}
 use Rattle.std.specs.Bool.{if◌then◌else◌}
@@ -11,7 +12,8 @@ use Rattle.pool_text.specs.Words.{is_blank, is_empty, is_long, is_silent, past_b
 use Rattle.pool_script.specs.Commands.{given, is_dot, line_command, takes_block}
 use Rattle.pool_script.specs.Form.{are_block_lines, holds_no_feed, is_block_text, is_expr, is_within, is_within_form}
 use Rattle.pool_script.specs.Keywords.{keyword_of}
-use Rattle.pool_script.specs.Rows.{advertise, block_text, clock, eval, eval_in, gang, keyword_command, priority, query, sole_name, submit, with_block, without_words}
+use Rattle.pool_script.specs.Rows.{advertise, block_text, clock, eval, eval_in, gang, keyword_command, priority, query, sole_name, submit, with_block}
+use Rattle.pool_script.specs.Rows.{without_words}
 use Rattle.pool_script.specs.Names.{is_name, sole_number}
 use Rattle.pool_script.specs.declared.command.Command.{Command}
 use Rattle.pool_script.specs.declared.command.Command.TheVariants as command
@@ -62,7 +64,8 @@ and_right : (a b : Bool) → (a && b) ≡ true → b ≡ true
 and_right true b is = is
 and_right false b is = cc
 
-named_form : (make : List ℕ → Command) → ((name : List ℕ) → is_name name ≡ true → is_within_form (make name) ≡ true) → (words : List ℕ) → is_within_form (option_map_or make (sole_name words) (command.Bad 3)) ≡ true
+named_form : (make : List ℕ → Command) → ((name : List ℕ) → is_name name ≡ true → is_within_form (make name) ≡ true) → (words : List ℕ)
+    → is_within_form (option_map_or make (sole_name words) (command.Bad 3)) ≡ true
 unfolding sole_name
 named_form make form words =
     elim (cases_Bool (is_name (word_of words) && is_empty (words_behind words))) [
@@ -70,7 +73,8 @@ named_form make form words =
       | inr is ↦ rw is (bad_form 3 refl)
     ]
 
-bounded_form : (make : ℕ → Command) (least most : ℕ) → ((n : ℕ) → is_within least most n ≡ true → is_within_form (make n) ≡ true) → (n : Option ℕ) → is_within_form (option_map_or make (option_and_then (λ m. if nat_le least m && nat_le m most then Some m else None) n) (command.Bad 3)) ≡ true
+bounded_form : (make : ℕ → Command) (least most : ℕ) → ((n : ℕ) → is_within least most n ≡ true → is_within_form (make n) ≡ true) → (n : Option ℕ)
+    → is_within_form (option_map_or make (option_and_then (λ m. if nat_le least m && nat_le m most then Some m else None) n) (command.Bad 3)) ≡ true
 bounded_form make least most form None = bad_form 3 refl
 bounded_form make least most form (Some n) =
     elim (cases_Bool (nat_le least n && nat_le n most)) [
@@ -78,14 +82,16 @@ bounded_form make least most form (Some n) =
       | inr is ↦ rw is (bad_form 3 refl)
     ]
 
-number_form : (make : ℕ → Command) (least most : ℕ) → ((n : ℕ) → is_within least most n ≡ true → is_within_form (make n) ≡ true) → (words : List ℕ) → is_within_form (option_map_or make (sole_number words least most) (command.Bad 3)) ≡ true
+number_form : (make : ℕ → Command) (least most : ℕ) → ((n : ℕ) → is_within least most n ≡ true → is_within_form (make n) ≡ true) → (words : List ℕ)
+    → is_within_form (option_map_or make (sole_number words least most) (command.Bad 3)) ≡ true
 number_form make least most form words =
     elim (cases_Bool (is_empty (words_behind words))) [
       | inl is ↦ rw is (bounded_form make least most form (number_of (word_of words)))
       | inr is ↦ rw is (bad_form 3 refl)
     ]
 
-block_form : (make : List ℕ → Command) → ((text : List ℕ) → is_block_text text ≡ true → is_within_form (make text) ≡ true) → (block : Option (List ℕ)) → HasWholeLines block → is_within_form (with_block make (block_text block)) ≡ true
+block_form : (make : List ℕ → Command) → ((text : List ℕ) → is_block_text text ≡ true → is_within_form (make text) ≡ true) → (block : Option (List ℕ))
+    → HasWholeLines block → is_within_form (with_block make (block_text block)) ≡ true
 unfolding block_text
 block_form make form None whole = bad_form 4 refl
 block_form make form (Some text) whole =
@@ -94,7 +100,8 @@ block_form make form (Some text) whole =
       | inr is ↦ rw is (bad_form 5 refl)
     ]
 
-name_form : (name : List ℕ) (made : Command) → (is_name name ≡ true → is_within_form made ≡ true) → is_within_form (if is_name name then made else command.Bad 3) ≡ true
+name_form : (name : List ℕ) (made : Command) → (is_name name ≡ true → is_within_form made ≡ true)
+    → is_within_form (if is_name name then made else command.Bad 3) ≡ true
 name_form name made form =
     elim (cases_Bool (is_name name)) [
       | inl is ↦ rw is (form is)
@@ -108,27 +115,33 @@ alone_form words made form =
       | inr is ↦ rw is (bad_form 3 refl)
     ]
 
-advertised_form : (name : List ℕ) (lifetime : ℕ) (block : List ℕ) → is_name name ≡ true → is_within 1 (10 ^ 9) lifetime ≡ true → is_block_text block ≡ true → is_within_form (command.Advertise name lifetime block) ≡ true
+advertised_form : (name : List ℕ) (lifetime : ℕ) (block : List ℕ) → is_name name ≡ true → is_within 1 (10 ^ 9) lifetime ≡ true → is_block_text block ≡ true
+    → is_within_form (command.Advertise name lifetime block) ≡ true
 unfolding is_within_form
 advertised_form name lifetime block of_name of_lifetime of_block = rw (of_name, of_lifetime, of_block) refl
 
 advertise_form : (words : List ℕ) (block : Option (List ℕ)) → HasWholeLines block → is_within_form (advertise words block) ≡ true
 unfolding advertise
 advertise_form words block whole =
-    name_form (word_of words) (option_map_or (λ lifetime. with_block (command.Advertise (word_of words) lifetime) (block_text block)) (sole_number (words_behind words) 1 (10 ^ 9)) (command.Bad 3))
+    name_form (word_of words) (option_map_or (λ lifetime. with_block (command.Advertise (word_of words) lifetime) (block_text block))
+    (sole_number (words_behind words) 1 (10 ^ 9)) (command.Bad 3))
     (λ named. number_form (λ lifetime. with_block (command.Advertise (word_of words) lifetime) (block_text block)) 1 (10 ^ 9)
-    (λ lifetime lives. block_form (command.Advertise (word_of words) lifetime) (λ text of_text. advertised_form (word_of words) lifetime text named lives of_text) block whole) (words_behind words))
+    (λ lifetime lives. block_form (command.Advertise (word_of words) lifetime)
+    (λ text of_text. advertised_form (word_of words) lifetime text named lives of_text) block whole) (words_behind words))
 
-submitted_form : (job user block : List ℕ) → is_name job ≡ true → is_name user ≡ true → is_block_text block ≡ true → is_within_form (command.Submit job user block) ≡ true
+submitted_form : (job user block : List ℕ) → is_name job ≡ true → is_name user ≡ true → is_block_text block ≡ true
+    → is_within_form (command.Submit job user block) ≡ true
 unfolding is_within_form
 submitted_form job user block of_job of_user of_block = rw (of_job, of_user, of_block) refl
 
 submit_form : (words : List ℕ) (block : Option (List ℕ)) → HasWholeLines block → is_within_form (submit words block) ≡ true
 unfolding submit
 submit_form words block whole =
-    name_form (word_of words) (option_map_or (λ user. with_block (command.Submit (word_of words) user) (block_text block)) (sole_name (words_behind words)) (command.Bad 3))
+    name_form (word_of words) (option_map_or (λ user. with_block (command.Submit (word_of words) user) (block_text block)) (sole_name (words_behind words))
+    (command.Bad 3))
     (λ named. named_form (λ user. with_block (command.Submit (word_of words) user) (block_text block))
-    (λ user uses. block_form (command.Submit (word_of words) user) (λ text of_text. submitted_form (word_of words) user text named uses of_text) block whole) (words_behind words))
+    (λ user uses. block_form (command.Submit (word_of words) user) (λ text of_text. submitted_form (word_of words) user text named uses of_text) block whole)
+    (words_behind words))
 
 query_form : (words : List ℕ) (block : Option (List ℕ)) → HasWholeLines block → is_within_form (query words block) ≡ true
 unfolding query is_within_form
@@ -175,7 +188,8 @@ none_without_return (x ∷ []) none =
       | inl is ↦ rw is refl
       | inr is ↦ rw is none
     ]
-none_without_return (x ∷ y ∷ line) none = let first = none_step x (y ∷ line) none in none_more x (without_return (y ∷ line)) first.0 (none_without_return (y ∷ line) first.1)
+none_without_return (x ∷ y ∷ line) none =
+    let first = none_step x (y ∷ line) none in none_more x (without_return (y ∷ line)) first.0 (none_without_return (y ∷ line) first.1)
 
 no_blank_in_front : (bytes : List ℕ) → is_blank (slice_index (past_blanks bytes) 0) ≡ false
 no_blank_in_front [] = refl
@@ -235,7 +249,8 @@ clock_form : (words : List ℕ) → is_within_form (clock words) ≡ true
 unfolding clock is_within_form
 clock_form words = number_form command.Clock 0 (10 ^ 12) (λ n is. is) words
 
-keyword_form : (k : Keyword) (words : List ℕ) (block : Option (List ℕ)) → IsRest words → HasWholeLines block → is_within_form (keyword_command k words block) ≡ true
+keyword_form : (k : Keyword) (words : List ℕ) (block : Option (List ℕ)) → IsRest words → HasWholeLines block
+    → is_within_form (keyword_command k words block) ≡ true
 unfolding keyword_command without_words is_within_form
 keyword_form word.Clock words block fits whole = clock_form words
 keyword_form word.Advertise words block fits whole = advertise_form words block whole
@@ -259,11 +274,13 @@ keyword_form word.Why words block fits whole = named_form command.Why (λ name i
 keyword_form word.Classes words block fits whole = alone_form words command.Classes refl
 keyword_form word.Unlisten words block fits whole = named_form command.Unlisten (λ name is. is) words
 
-option_form : (k : Option Keyword) (words : List ℕ) (block : Option (List ℕ)) → IsRest words → HasWholeLines block → is_within_form (option_map_or (λ keyword. keyword_command keyword words block) k (command.Bad 2)) ≡ true
+option_form : (k : Option Keyword) (words : List ℕ) (block : Option (List ℕ)) → IsRest words → HasWholeLines block
+    → is_within_form (option_map_or (λ keyword. keyword_command keyword words block) k (command.Bad 2)) ≡ true
 option_form None words block fits whole = bad_form 2 refl
 option_form (Some k) words block fits whole = keyword_form k words block fits whole
 
-pub line_form : (line : List ℕ) (block : Option (List ℕ)) → is_long line ≡ false → ended line ≡ [] → HasWholeLines block → is_within_form (line_command line block) ≡ true
+pub line_form : (line : List ℕ) (block : Option (List ℕ)) → is_long line ≡ false → ended line ≡ [] → HasWholeLines block
+    → is_within_form (line_command line block) ≡ true
 unfolding line_command
 line_form line block short none whole =
     let fits : length line ≤ 65536 = grind (arith, nat_tests) in
@@ -299,6 +316,7 @@ pub given_form_inside : (block : Block) (line : List ℕ) → IsOpen block → l
 unfolding given
 given_form_inside block line is_open =
     elim (cases_Bool (is_dot line)) [
-      | inl is ↦ rw is (all_form (line_command block.line (Some block.text)) (line_form block.line (Some block.text) (takes_block-short block.line is_open.taken) is_open.one_line is_open.lines))
+      | inl is ↦ rw is (all_form (line_command block.line (Some block.text))
+          (line_form block.line (Some block.text) (takes_block-short block.line is_open.taken) is_open.one_line is_open.lines))
       | inr is ↦ rw is refl
     ]

@@ -25,7 +25,8 @@ given_line-kept bytes =
       | inr is ↦ ap given_line (kept_short bytes is)
     ]
 
-alike : (bytes bytes2 : List ℕ) (lines : List (List ℕ)) → is_long bytes ≡ true → is_long bytes2 ≡ true → map given_line (bytes ∷ lines) ≡ map given_line (bytes2 ∷ lines)
+alike : (bytes bytes2 : List ℕ) (lines : List (List ℕ)) → is_long bytes ≡ true → is_long bytes2 ≡ true
+    → map given_line (bytes ∷ lines) ≡ map given_line (bytes2 ∷ lines)
 alike bytes bytes2 lines long long2 = ap (λ (l : Line). l ∷ map given_line lines) (given_line-long bytes long ∙ sym (given_line-long bytes2 long2))
 
 -- and whatever follows it
@@ -37,22 +38,28 @@ given_lines-feed over bytes more none = ap (λ (lines : List (List ℕ)). map gi
 
 -- what was read of a piece gave what it gives behind what was kept, and the others are left
 abbrev pub Leaves : Held Line → List ℕ → Held Line → List ℕ → Type 0
-Leaves old piece now left = (over : Bool) (more : List ℕ) → now.waiting ++ given_lines over (now.rest ++ (left ++ more)) ≡ old.waiting ++ given_lines over (old.rest ++ (piece ++ more))
+Leaves old piece now left =
+    (over : Bool) (more : List ℕ) → now.waiting ++ given_lines over (now.rest ++ (left ++ more)) ≡ old.waiting ++ given_lines over (old.rest ++ (piece ++ more))
 
 -- bytes that are added to a line
 pub begun_with : (rest bytes : List ℕ) → IsBegun rest → ended bytes ≡ [] → IsBegun (kept (rest ++ bytes))
-begun_with rest bytes begun none = record { one_line = ended_kept (rest ++ bytes) (ended_none-append rest bytes begun.one_line none); short = kept-length (rest ++ bytes) }
+begun_with rest bytes begun none =
+    record { one_line = ended_kept (rest ++ bytes) (ended_none-append rest bytes begun.one_line none); short = kept-length (rest ++ bytes) }
 
-at_feed : (rest left bytes with_feed behind more : List ℕ) → CutsAtFeed left bytes with_feed behind → rest ++ (left ++ more) ≡ (rest ++ bytes) ++ 10 ∷ (behind ++ more)
+at_feed : (rest left bytes with_feed behind more : List ℕ) → CutsAtFeed left bytes with_feed behind
+    → rest ++ (left ++ more) ≡ (rest ++ bytes) ++ 10 ∷ (behind ++ more)
 at_feed rest left bytes with_feed behind more cuts =
-    ap (λ (l : List ℕ). rest ++ (l ++ more)) (sym cuts.parts) ∙ ap (λ (l : List ℕ). rest ++ l) (append_assoc bytes (10 ∷ behind) more) ∙ sym (append_assoc rest bytes (10 ∷ (behind ++ more)))
+    ap (λ (l : List ℕ). rest ++ (l ++ more)) (sym cuts.parts) ∙ ap (λ (l : List ℕ). rest ++ l) (append_assoc bytes (10 ∷ behind) more)
+    ∙ sym (append_assoc rest bytes (10 ∷ (behind ++ more)))
 
 -- a line ends
-pub Leaves-line : (old now new : Held Line) (piece left bytes with_feed behind : List ℕ) → IsBegun now.rest → CutsAtFeed left bytes with_feed behind → new.waiting ≡ now.waiting ++ given_line (kept (now.rest ++ bytes)) ∷ [] → new.rest ≡ [] → Leaves old piece now left → Leaves old piece new behind
+pub Leaves-line : (old now new : Held Line) (piece left bytes with_feed behind : List ℕ) → IsBegun now.rest → CutsAtFeed left bytes with_feed behind
+    → new.waiting ≡ now.waiting ++ given_line (kept (now.rest ++ bytes)) ∷ [] → new.rest ≡ [] → Leaves old piece now left → Leaves old piece new behind
 Leaves-line old now new piece left bytes with_feed behind begun cuts waiting rest leaves = λ over more.
     let line : List ℕ = now.rest ++ bytes in
     let step : given_lines over (now.rest ++ (left ++ more)) ≡ given_line line ∷ given_lines over (behind ++ more) =
-    ap (λ (l : List ℕ). given_lines over l) (at_feed now.rest left bytes with_feed behind more cuts) ∙ given_lines-feed over line (behind ++ more) (ended_none-append now.rest bytes begun.one_line cuts.one_line) in
+    ap (λ (l : List ℕ). given_lines over l) (at_feed now.rest left bytes with_feed behind more cuts)
+    ∙ given_lines-feed over line (behind ++ more) (ended_none-append now.rest bytes begun.one_line cuts.one_line) in
     ap (λ (l : List ℕ). new.waiting ++ given_lines over (l ++ (behind ++ more))) rest
     ∙ ap (λ (w : List Line). w ++ given_lines over (behind ++ more)) (waiting ∙ ap (λ (l : Line). now.waiting ++ l ∷ []) (given_line-kept line))
     ∙ append_assoc now.waiting (given_line line ∷ []) (given_lines over (behind ++ more))
@@ -60,7 +67,8 @@ Leaves-line old now new piece left bytes with_feed behind begun cuts waiting res
     ∙ leaves over more
 
 -- the piece ends within a line
-pub Leaves-end : (old now new : Held Line) (piece left : List ℕ) → IsBegun now.rest → ended left ≡ [] → new.waiting ≡ now.waiting → new.rest ≡ kept (now.rest ++ left) → Leaves old piece now left → Promises given_lines old piece new
+pub Leaves-end : (old now new : Held Line) (piece left : List ℕ) → IsBegun now.rest → ended left ≡ [] → new.waiting ≡ now.waiting
+    → new.rest ≡ kept (now.rest ++ left) → Leaves old piece now left → Promises given_lines old piece new
 Leaves-end old now new piece left begun none waiting rest leaves = λ over more.
     ap (λ (l : List ℕ). new.waiting ++ given_lines over (l ++ more)) rest
     ∙ ap (λ (w : List Line). w ++ given_lines over (kept (now.rest ++ left) ++ more)) waiting

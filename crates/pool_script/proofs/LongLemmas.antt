@@ -1,5 +1,6 @@
 -- Of a line or a block that is too long, the bytes past the limit make no difference.
-use Rattle.std.proofs.Common.{◌≡◌, ℕ, ◌-◌, ◌+◌, ◌≤◌, ◌<◌, Bool, true, false, eqb, ltb, List, [], ◌∷◌, ◌++◌, length, min, take, Option, None, Some, Err, refl, sym, ◌∙◌, ap, inl, inr, arith, append_assoc, length-append, codes}
+use Rattle.std.proofs.Common.{◌≡◌, ℕ, ◌-◌, ◌+◌, ◌≤◌, ◌<◌, Bool, true, false, eqb, ltb, List, [], ◌∷◌, ◌++◌, length, min, take, Option, None, Some, Err, refl}
+use Rattle.std.proofs.Common.{sym, ◌∙◌, ap, inl, inr, arith, append_assoc, length-append, codes}
 use Rattle.std.proofs.Math.Seq.{take-append-add}
 use Rattle.std.proofs.lemmas.Bool.{cases_Bool}
 use Rattle.std.proofs.lemmas.Bool.Decides.{nat_tests}
@@ -26,7 +27,8 @@ block_text-long : (text : List ℕ) → is_long text ≡ true → block_text (So
 unfolding block_text
 block_text-long text long = let no : ltb 65536 (length text) ≡ true = long in grind (arith, nat_tests)
 
-same_answer : (k : Keyword) (words text text2 : List ℕ) → block_text (Some text) ≡ block_text (Some text2) → keyword_command k words (Some text) ≡ keyword_command k words (Some text2)
+same_answer : (k : Keyword) (words text text2 : List ℕ) → block_text (Some text) ≡ block_text (Some text2)
+    → keyword_command k words (Some text) ≡ keyword_command k words (Some text2)
 unfolding keyword_command advertise query submit gang
 same_answer word.Clock words text text2 same = refl
 same_answer word.Advertise words text text2 same = rw same refl
@@ -50,25 +52,31 @@ same_answer word.Why words text text2 same = refl
 same_answer word.Classes words text text2 same = refl
 same_answer word.Unlisten words text text2 same = refl
 
-same_option : (k : Option Keyword) (words text text2 : List ℕ) → block_text (Some text) ≡ block_text (Some text2) → option_map_or (λ keyword. keyword_command keyword words (Some text)) k (command.Bad 2) ≡ option_map_or (λ keyword. keyword_command keyword words (Some text2)) k (command.Bad 2)
+same_option : (k : Option Keyword) (words text text2 : List ℕ) → block_text (Some text) ≡ block_text (Some text2)
+    → option_map_or (λ keyword. keyword_command keyword words (Some text)) k (command.Bad 2)
+    ≡ option_map_or (λ keyword. keyword_command keyword words (Some text2)) k (command.Bad 2)
 same_option None words text text2 same = refl
 same_option (Some k) words text text2 same = same_answer k words text text2 same
 
 long_answer : (line text text2 : List ℕ) → is_long text ≡ true → is_long text2 ≡ true → line_command line (Some text) ≡ line_command line (Some text2)
 unfolding line_command
-long_answer line text text2 long long2 = same_option (keyword_of (word_of (text_of line))) (words_behind (text_of line)) text text2 (block_text-long text long ∙ sym (block_text-long text2 long2))
+long_answer line text text2 long long2 =
+    same_option (keyword_of (word_of (text_of line))) (words_behind (text_of line)) text text2 (block_text-long text long ∙ sym (block_text-long text2 long2))
 
 abbrev pub block_at : List ℕ → List ℕ → Option Block
 block_at line text = Some (record { line = line; text = text })
 
 -- two texts that are too long are answered alike
-pub long_texts : (over : Bool) (line text text2 : List ℕ) (lines : List (List ℕ)) → is_long text ≡ true → is_long text2 ≡ true → commands over (block_at line text) lines ≡ commands over (block_at line text2) lines
+pub long_texts : (over : Bool) (line text text2 : List ℕ) (lines : List (List ℕ)) → is_long text ≡ true → is_long text2 ≡ true
+    → commands over (block_at line text) lines ≡ commands over (block_at line text2) lines
 unfolding given next cut_off
 long_texts over line text text2 [] long long2 = refl
 long_texts over line text text2 (l ∷ lines) long long2 =
     elim (cases_Bool (is_dot l)) [
       | inl is ↦ rw is (ap (λ (c : Command). c ∷ commands over None lines) (long_answer line text text2 long long2))
-      | inr is ↦ rw is (long_texts over line (text ++ without_return l ++ 10 ∷ []) (text2 ++ without_return l ++ 10 ∷ []) lines (is_long-append (text ++ without_return l) (10 ∷ []) (is_long-append text (without_return l) long)) (is_long-append (text2 ++ without_return l) (10 ∷ []) (is_long-append text2 (without_return l) long2)))
+      | inr is ↦ rw is (long_texts over line (text ++ without_return l ++ 10 ∷ []) (text2 ++ without_return l ++ 10 ∷ []) lines
+          (is_long-append (text ++ without_return l) (10 ∷ []) (is_long-append text (without_return l) long))
+          (is_long-append (text2 ++ without_return l) (10 ∷ []) (is_long-append text2 (without_return l) long2)))
     ]
 
 pub takes_block-long : (line : List ℕ) → is_long line ≡ true → takes_block line ≡ false
@@ -114,12 +122,14 @@ unfolding kept
 ended_kept line none = ended_none-take 65537 line none
 
 -- two lines that are too long are answered alike
-long_line : (over : Bool) (block : Option Block) (line line2 : List ℕ) (lines : List (List ℕ)) → is_long line ≡ true → is_long line2 ≡ true → commands over block (line ∷ lines) ≡ commands over block (line2 ∷ lines)
+long_line : (over : Bool) (block : Option Block) (line line2 : List ℕ) (lines : List (List ℕ)) → is_long line ≡ true → is_long line2 ≡ true
+    → commands over block (line ∷ lines) ≡ commands over block (line2 ∷ lines)
 unfolding given next
 long_line over None line line2 lines long long2 = rw (long, long2, takes_block-long line long, takes_block-long line2 long2) refl
 long_line over (Some block) line line2 lines long long2 =
     rw (is_dot-long line long, is_dot-long line2 long2)
-    (long_texts over block.line (block.text ++ without_return line ++ 10 ∷ []) (block.text ++ without_return line2 ++ 10 ∷ []) lines (text_long block.text line long) (text_long block.text line2 long2))
+    (long_texts over block.line (block.text ++ without_return line ++ 10 ∷ []) (block.text ++ without_return line2 ++ 10 ∷ []) lines
+    (text_long block.text line long) (text_long block.text line2 long2))
 
 last_long : (line : List ℕ) → is_long line ≡ true → last_line line ≡ line ∷ []
 last_long [] long = cc
@@ -143,13 +153,17 @@ kept_long line long =
     grind (arith, nat_tests)
 
 -- whatever is made of lines, so that two lines that are too long give the same
-module _ {A : Type 0} (made : List (List ℕ) → A) (alike : (line line2 : List ℕ) (lines : List (List ℕ)) → is_long line ≡ true → is_long line2 ≡ true → made (line ∷ lines) ≡ made (line2 ∷ lines)) where
-  long_end : (over : Bool) (line line2 : List ℕ) → is_long line ≡ true → is_long line2 ≡ true → ended line ≡ [] → ended line2 ≡ [] → made (lines_of over line) ≡ made (lines_of over line2)
+module _ {A : Type 0} (made : List (List ℕ) → A) (alike : (line line2 : List ℕ) (lines : List (List ℕ)) → is_long line ≡ true → is_long line2 ≡ true
+    → made (line ∷ lines) ≡ made (line2 ∷ lines)) where
+  long_end : (over : Bool) (line line2 : List ℕ) → is_long line ≡ true → is_long line2 ≡ true → ended line ≡ [] → ended line2 ≡ []
+      → made (lines_of over line) ≡ made (lines_of over line2)
   long_end false line line2 long long2 none none2 = ap made (none ∙ sym none2)
-  long_end true line line2 long long2 none none2 = ap made (whole_long line long none) ∙ alike line line2 [] long long2 ∙ sym (ap made (whole_long line2 long2 none2))
+  long_end true line line2 long long2 none none2 =
+      ap made (whole_long line long none) ∙ alike line line2 [] long long2 ∙ sym (ap made (whole_long line2 long2 none2))
 
   -- then whatever follows two beginnings of such lines gives the same
-  long_lines : (over : Bool) (more line line2 : List ℕ) → is_long line ≡ true → is_long line2 ≡ true → ended line ≡ [] → ended line2 ≡ [] → made (lines_of over (line ++ more)) ≡ made (lines_of over (line2 ++ more))
+  long_lines : (over : Bool) (more line line2 : List ℕ) → is_long line ≡ true → is_long line2 ≡ true → ended line ≡ [] → ended line2 ≡ []
+      → made (lines_of over (line ++ more)) ≡ made (lines_of over (line2 ++ more))
   long_lines over [] line line2 long long2 none none2 = rw (append-nil line, append-nil line2) (long_end over line line2 long long2 none none2)
   long_lines over (byte ∷ more) line line2 long long2 none none2 =
       elim (cases_Bool (eqb byte 10)) [
@@ -157,8 +171,11 @@ module _ {A : Type 0} (made : List (List ℕ) → A) (alike : (line line2 : List
             let feed : byte ≡ 10 = grind (arith, nat_tests) in
             rw (feed, lines_feed over line more none, lines_feed over line2 more none2) (alike line line2 (lines_of over more) long long2)
         | inr is ↦
-            let next_is = long_lines over more (line ++ byte ∷ []) (line2 ++ byte ∷ []) (is_long-append line (byte ∷ []) long) (is_long-append line2 (byte ∷ []) long2) (ended_none-append line (byte ∷ []) none (one_byte byte is)) (ended_none-append line2 (byte ∷ []) none2 (one_byte byte is)) in
-            ap (λ (bytes : List ℕ). made (lines_of over bytes)) (sym (append_assoc line (byte ∷ []) more)) ∙ next_is ∙ ap (λ (bytes : List ℕ). made (lines_of over bytes)) (append_assoc line2 (byte ∷ []) more)
+            let next_is =
+            long_lines over more (line ++ byte ∷ []) (line2 ++ byte ∷ []) (is_long-append line (byte ∷ []) long) (is_long-append line2 (byte ∷ []) long2)
+            (ended_none-append line (byte ∷ []) none (one_byte byte is)) (ended_none-append line2 (byte ∷ []) none2 (one_byte byte is)) in
+            ap (λ (bytes : List ℕ). made (lines_of over bytes)) (sym (append_assoc line (byte ∷ []) more)) ∙ next_is
+            ∙ ap (λ (bytes : List ℕ). made (lines_of over bytes)) (append_assoc line2 (byte ∷ []) more)
       ]
 
   -- and what is kept of a line gives what the line gives
@@ -170,19 +187,24 @@ module _ {A : Type 0} (made : List (List ℕ) → A) (alike : (line line2 : List
       ]
 
 -- what is kept of a line gives the commands of the line
-pub kept_commands : (over : Bool) (block : Option Block) (line more : List ℕ) → ended line ≡ [] → commands over block (lines_of over (kept line ++ more)) ≡ commands over block (lines_of over (line ++ more))
+pub kept_commands : (over : Bool) (block : Option Block) (line more : List ℕ) → ended line ≡ []
+    → commands over block (lines_of over (kept line ++ more)) ≡ commands over block (lines_of over (line ++ more))
 kept_commands over block line more none = kept_line (λ (lines : List (List ℕ)). commands over block lines) (long_line over block) over line more none
 
-long_next : (over : Bool) (block : Block) (line : List ℕ) (lines : List (List ℕ)) → is_dot line ≡ false → is_long block.text ≡ true → commands over (Some block) lines ≡ commands over (next (Some block) line) lines
+long_next : (over : Bool) (block : Block) (line : List ℕ) (lines : List (List ℕ)) → is_dot line ≡ false → is_long block.text ≡ true
+    → commands over (Some block) lines ≡ commands over (next (Some block) line) lines
 unfolding next
-long_next over block line lines is long = rw is (long_texts over block.line block.text (block.text ++ without_return line ++ 10 ∷ []) lines long (is_long-append (block.text ++ without_return line) (10 ∷ []) (is_long-append block.text (without_return line) long)))
+long_next over block line lines is long =
+    rw is (long_texts over block.line block.text (block.text ++ without_return line ++ 10 ∷ []) lines long
+    (is_long-append (block.text ++ without_return line) (10 ∷ []) (is_long-append block.text (without_return line) long)))
 
 next_at_dot : (block : Block) (line : List ℕ) → is_dot line ≡ true → None ≡ next (Some block) line
 unfolding next
 next_at_dot block line is = rw is refl
 
 -- what is kept of a block gives the commands of the block
-pub kept_block : (over : Bool) (block : Option Block) (line : List ℕ) (lines : List (List ℕ)) → commands over (kept_next block line) lines ≡ commands over (next block line) lines
+pub kept_block : (over : Bool) (block : Option Block) (line : List ℕ) (lines : List (List ℕ))
+    → commands over (kept_next block line) lines ≡ commands over (next block line) lines
 unfolding kept_next
 kept_block over None line lines = refl
 kept_block over (Some block) line lines =
@@ -204,4 +226,5 @@ pub kept-append : (line bytes : List ℕ) → length line ≤ 65537 → line ++ 
 unfolding kept
 kept-append line bytes short =
     let room : length line + (65537 - length line) ≡ 65537 = omega arith in
-    ap (λ (l : List ℕ). line ++ l) (take_min (65537 - length line) bytes) ∙ sym (take-append-add line bytes (65537 - length line)) ∙ ap (λ (n : ℕ). take n (line ++ bytes)) room
+    ap (λ (l : List ℕ). line ++ l) (take_min (65537 - length line) bytes) ∙ sym (take-append-add line bytes (65537 - length line))
+    ∙ ap (λ (n : ℕ). take n (line ++ bytes)) room

@@ -31,7 +31,8 @@ is_dot line = bytes_eq (without_return line) (codes ".")
 
 -- the command of a line, with the text of its block where the block has ended
 unfoldable pub line_command : List ℕ → Option (List ℕ) → Command
-line_command line block = option_map_or (λ keyword. keyword_command keyword (words_behind (text_of line)) block) (keyword_of (word_of (text_of line))) unknown_command
+line_command line block =
+    option_map_or (λ keyword. keyword_command keyword (words_behind (text_of line)) block) (keyword_of (word_of (text_of line))) unknown_command
 
 -- the commands that a line gives, in a block or outside one
 unfoldable pub given : Option Block → List ℕ → List Command

@@ -47,7 +47,8 @@ clock words = option_map_or command.Clock (sole_number words 0 (10 ^ 12)) wrong_
 unfoldable pub advertise : List ℕ → Option (List ℕ) → Command
 advertise words block =
     if is_name (word_of words)
-    then option_map_or (λ lifetime. with_block (command.Advertise (word_of words) lifetime) (block_text block)) (sole_number (words_behind words) 1 (10 ^ 9)) wrong_words
+    then option_map_or (λ lifetime. with_block (command.Advertise (word_of words) lifetime) (block_text block)) (sole_number (words_behind words) 1 (10 ^ 9))
+    wrong_words
     else wrong_words
 
 -- `eval EXPR`

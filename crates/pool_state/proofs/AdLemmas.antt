@@ -1,5 +1,6 @@
 -- Ads beside their slots, and ads that leave.
-use Rattle.std.proofs.Common.{◌≡◌, ℕ, zero, suc, ◌+◌, ◌<◌, ◌≤◌, if◌then◌else◌, Bool, true, false, not, List, [], ◌∷◌, ◌++◌, length, map, take, find, Option, None, Some, slice_get, option_map, Result, Ok, Err, OnOk, OnErr, refl, sym, ◌∙◌, ap, inl, inr, arith}
+use Rattle.std.proofs.Common.{◌≡◌, ℕ, zero, suc, ◌+◌, ◌<◌, ◌≤◌, if◌then◌else◌, Bool, true, false, not, List, [], ◌∷◌, ◌++◌, length, map, take, find, Option}
+use Rattle.std.proofs.Common.{None, Some, slice_get, option_map, Result, Ok, Err, OnOk, OnErr, refl, sym, ◌∙◌, ap, inl, inr, arith}
 use Rattle.std.proofs.lemmas.Bool.{cases_Bool}
 use Rattle.std.proofs.lemmas.List.{length-map}
 use Rattle.std.specs.Cmp.Lexicographic.{bytes_decides}
@@ -22,7 +23,8 @@ pub record Beside (test : Advert → Bool) (ads : List Advert) (slots : List ℕ
   pub found : find test ads ≡ Some advert
 
 -- the slot that was found is that of the first ad that passes
-pub slot_beside-found : (test : Advert → Bool) (ads : List Advert) (slots : List ℕ) (slot : ℕ) → slot_beside test ads slots ≡ Some slot → Beside test ads slots slot
+pub slot_beside-found : (test : Advert → Bool) (ads : List Advert) (slots : List ℕ) (slot : ℕ) → slot_beside test ads slots ≡ Some slot
+    → Beside test ads slots slot
 slot_beside-found test [] slots slot is = absurd (cc)
 slot_beside-found test (x ∷ ads) [] slot is = absurd (cc)
 slot_beside-found test (x ∷ ads) (y ∷ slots) slot is =
@@ -34,7 +36,8 @@ slot_beside-found test (x ∷ ads) (y ∷ slots) slot is =
     ]
 
 -- no slot was found where no ad passes
-pub slot_beside-none : (test : Advert → Bool) (ads : List Advert) (slots : List ℕ) → length ads ≡ length slots → slot_beside test ads slots ≡ None → find test ads ≡ None
+pub slot_beside-none : (test : Advert → Bool) (ads : List Advert) (slots : List ℕ) → length ads ≡ length slots → slot_beside test ads slots ≡ None
+    → find test ads ≡ None
 slot_beside-none test [] slots long none = refl
 slot_beside-none test (x ∷ ads) [] long none = absurd (omega arith)
 slot_beside-none test (x ∷ ads) (y ∷ slots) long none =
@@ -45,17 +48,19 @@ slot_beside-none test (x ∷ ads) (y ∷ slots) long none =
 
 -- a store has a slot for each ad
 pub stock-length : (store : Store) → length (stock_of store).ads ≡ length (stock_of store).slots
-stock-length store = length-map store.names.entries _ ∙ sym (length-map store.names.entries _)
+stock-length store = length-map store.order _
 
 -- the rows of the first ads and the next
-pub rows_more : (jobs : List QueuedJob) (ads : List Advert) (i : ℕ) (row : AdRow) → option_map (ad_row jobs) (slice_get ads i) ≡ Some row → map (ad_row jobs) (take i ads) ++ row ∷ [] ≡ map (ad_row jobs) (take (suc i) ads)
+pub rows_more : (jobs : List QueuedJob) (ads : List Advert) (i : ℕ) (row : AdRow) → option_map (ad_row jobs) (slice_get ads i) ≡ Some row
+    → map (ad_row jobs) (take i ads) ++ row ∷ [] ≡ map (ad_row jobs) (take (suc i) ads)
 rows_more jobs [] i row is = absurd (cc)
 rows_more jobs (x ∷ ads) zero row is = let same : ad_row jobs x ≡ row = cc in ap (λ (r : AdRow). r ∷ []) (sym same)
 rows_more jobs (x ∷ ads) (suc i) row is = ap (λ (rows : List AdRow). ad_row jobs x ∷ rows) (rows_more jobs ads i row is)
 
 -- the row of an ad, from what was asked of it
 pub row-is : (jobs : List QueuedJob) (ads : List Advert) (i : ℕ) (name : List ℕ) (born lifetime : ℕ) (claimed offered : Option (List ℕ))
-    → option_map (λ a. a.name) (slice_get ads i) ≡ Some name → option_map (λ a. a.born) (slice_get ads i) ≡ Some born → option_map (λ a. a.lifetime) (slice_get ads i) ≡ Some lifetime
+    → option_map (λ a. a.name) (slice_get ads i) ≡ Some name → option_map (λ a. a.born) (slice_get ads i) ≡ Some born
+    → option_map (λ a. a.lifetime) (slice_get ads i) ≡ Some lifetime
     → ((a : Advert) → slice_get ads i ≡ Some a → claimed ≡ option_map (λ job. job.name) (claimed_by a.name jobs))
     → ((a : Advert) → slice_get ads i ≡ Some a → offered ≡ option_map (λ job. job.name) (offered_to a.name jobs))
     → option_map (ad_row jobs) (slice_get ads i) ≡ Some (record { name = name; born = born; lifetime = lifetime; claimed = claimed; offered = offered })
@@ -107,7 +112,8 @@ live_step now x a b same =
     ]
 
 -- an ad that isn't live may be taken out by its name
-pub live-without : (now : ℕ) (name : List ℕ) (ads : List Advert) (i : ℕ) (a : Advert) → AreApart ads → slice_get ads i ≡ Some a → a.name ≡ name → is_live now a ≡ false → live_ads now (without name ads) ≡ live_ads now ads
+pub live-without : (now : ℕ) (name : List ℕ) (ads : List Advert) (i : ℕ) (a : Advert) → AreApart ads → slice_get ads i ≡ Some a → a.name ≡ name
+    → is_live now a ≡ false → live_ads now (without name ads) ≡ live_ads now ads
 live-without now name [] i a apart at is gone = refl
 live-without now name (x ∷ ads) zero a apart at is gone =
     let same : x ≡ a = cc in
@@ -135,11 +141,13 @@ withdrawn (Ok x) P held is done none = done
 withdrawn (Err e) P held is done none = let clash : true ≡ false = sym is ∙ none in absurd (cc)
 
 -- the name that an ad has
-pub own_name : (ads : List Advert) (i : ℕ) (a : Advert) (name : List ℕ) → slice_get ads i ≡ Some a → option_map (λ x. x.name) (slice_get ads i) ≡ Some name → a.name ≡ name
+pub own_name : (ads : List Advert) (i : ℕ) (a : Advert) (name : List ℕ) → slice_get ads i ≡ Some a → option_map (λ x. x.name) (slice_get ads i) ≡ Some name
+    → a.name ≡ name
 own_name ads i a name at is = let both : Some a.name ≡ Some name = sym (ap (option_map (λ (x : Advert). x.name)) at) ∙ is in cc
 
 -- the frames that an ad has
-pub own_frames : (ads : List Advert) (i : ℕ) (a : Advert) (frames : List Frame) → slice_get ads i ≡ Some a → option_map (λ x. x.ad) (slice_get ads i) ≡ Some frames → a.ad ≡ frames
+pub own_frames : (ads : List Advert) (i : ℕ) (a : Advert) (frames : List Frame) → slice_get ads i ≡ Some a
+    → option_map (λ x. x.ad) (slice_get ads i) ≡ Some frames → a.ad ≡ frames
 own_frames ads i a frames at is = let both : Some a.ad ≡ Some frames = sym (ap (option_map (λ (x : Advert). x.ad)) at) ∙ is in cc
 
 pub not_live : (b : Bool) → not b ≡ true → b ≡ false

@@ -1,5 +1,6 @@
 -- A claim and a release by slots and numbers are those by names.
-use Rattle.std.proofs.Common.{◌≡◌, ℕ, zero, suc, All, Bool, true, false, ◌&&◌, bytes_eq, cond, List, [], ◌∷◌, map, slice_get, Contains, Option, None, Some, option_map, Result, Ok, Err, OnErr, OnOk, IfSome, refl, sym, ◌∙◌, ap, subst}
+use Rattle.std.proofs.Common.{◌≡◌, ℕ, zero, suc, All, Bool, true, false, ◌&&◌, bytes_eq, cond, List, [], ◌∷◌, map, slice_get, Contains, Option, None, Some}
+use Rattle.std.proofs.Common.{option_map, Result, Ok, Err, OnErr, OnOk, IfSome, refl, sym, ◌∙◌, ap, subst}
 use Rattle.std.specs.List.{find, list_all}
 use Rattle.std.specs.Option.{option_and_then, option_map_or}
 use Rattle.std.specs.Cmp.Lexicographic.{bytes_decides}
@@ -49,7 +50,8 @@ all-held slots (job ∷ jobs) stored =
 pub held-all : (slots : List ℕ) (jobs : List Job) → All (λ job. All (Contains slots) (slots_of job.standing)) jobs → are_stored slots jobs ≡ true
 held-all slots [] all = refl
 held-all slots (job ∷ jobs) all =
-    ap (λ b. b && are_stored slots jobs) (all-lists slots (slots_of job.standing) (All-head (ListsOf slots) job jobs all)) ∙ held-all slots jobs (All-tail (ListsOf slots) job jobs all)
+    ap (λ b. b && are_stored slots jobs) (all-lists slots (slots_of job.standing) (All-head (ListsOf slots) job jobs all))
+    ∙ held-all slots jobs (All-tail (ListsOf slots) job jobs all)
 
 idle-stored : (slots : List ℕ) (i : ℕ) (jobs : List Job) → are_stored slots jobs ≡ true → are_stored slots (with_standing jobs i Stage.Idle) ≡ true
 idle-stored slots i [] stored = refl
@@ -80,7 +82,8 @@ named-by : (name : List ℕ) (jobs : List Job) (job : Job) → find (is_named na
 named-by name [] job found = absurd (none-some job found)
 named-by name (x ∷ xs) job found = by (is_named name x) refl found (λ later. named-by name xs job later)
   where
-    by : (b : Bool) → is_named name x ≡ b → cond b (Some x) (find (is_named name) xs) ≡ Some job → (find (is_named name) xs ≡ Some job → is_named name job ≡ true) → is_named name job ≡ true
+    by : (b : Bool) → is_named name x ≡ b → cond b (Some x) (find (is_named name) xs) ≡ Some job
+        → (find (is_named name) xs ≡ Some job → is_named name job ≡ true) → is_named name job ≡ true
     by true is here rest = let same : x ≡ job = same_Some x job here in ap (is_named name) (sym same) ∙ is
     by false is later rest = rest later
 
@@ -88,23 +91,28 @@ itself : (name : List ℕ) → bytes_eq name name ≡ true
 itself name = (bytes_decides name name).1 refl
 
 -- the names of the resources of the job of a name
-pub given-seen : (stock : Stock) (name : List ℕ) (jobs : List Job) → map (name_in stock) (option_map_or (λ job. slots_of job.standing) (job_named name jobs) []) ≡ names_given name (map (queued stock) jobs)
+pub given-seen : (stock : Stock) (name : List ℕ) (jobs : List Job)
+    → map (name_in stock) (option_map_or (λ job. slots_of job.standing) (job_named name jobs) []) ≡ names_given name (map (queued stock) jobs)
 given-seen stock name jobs =
     ap (λ o. map (name_in stock) (option_map_or (λ (j : Job). slots_of j.standing) o [])) (found-first (is_named name) jobs)
     ∙ by (find (is_named name) jobs)
     ∙ sym (ap (λ o. option_map_or (λ (q : QueuedJob). names_of q.standing) o []) (job-seen stock name jobs))
   where
-    by : (o : Option Job) → map (name_in stock) (option_map_or (λ (j : Job). slots_of j.standing) o []) ≡ option_map_or (λ (q : QueuedJob). names_of q.standing) (option_map (queued stock) o) []
+    by : (o : Option Job)
+        → map (name_in stock) (option_map_or (λ (j : Job). slots_of j.standing) o [])
+        ≡ option_map_or (λ (q : QueuedJob). names_of q.standing) (option_map (queued stock) o) []
     by None = refl
     by (Some job) = sym (names-mapped stock job.standing)
 
 -- the slots of the job of a name are in the store
-pub given-held : (slots : List ℕ) (name : List ℕ) (jobs : List Job) → are_stored slots jobs ≡ true → All IsOwned jobs → All (Contains slots) (option_map_or (λ job. slots_of job.standing) (job_named name jobs) [])
+pub given-held : (slots : List ℕ) (name : List ℕ) (jobs : List Job) → are_stored slots jobs ≡ true → All IsOwned jobs
+    → All (Contains slots) (option_map_or (λ job. slots_of job.standing) (job_named name jobs) [])
 given-held slots name jobs stored owned =
     subst (λ (o : Option Job). All (Contains slots) (option_map_or (λ (j : Job). slots_of j.standing) o [])) (sym (found-first (is_named name) jobs))
     (by (find (is_named name) jobs) (found-both slots name jobs stored owned))
   where
-    by : (o : Option Job) → IfSome o (λ job. IsOwned job × (is_stored slots job ≡ true)) → All (Contains slots) (option_map_or (λ (j : Job). slots_of j.standing) o [])
+    by : (o : Option Job) → IfSome o (λ job. IsOwned job × (is_stored slots job ≡ true))
+        → All (Contains slots) (option_map_or (λ (j : Job). slots_of j.standing) o [])
     by None holds = All-nil (Contains slots)
     by (Some job) holds = all-contained slots (slots_of job.standing) holds.1
 
@@ -122,7 +130,8 @@ module _ (stock : Stock) (moment : ℕ) (settings : List Setting) where
   abbrev then_jobs : List QueuedJob → State
   then_jobs queue = record { moment = moment; ads = stock.ads; jobs = queue; priorities = settings }
 
-  module _ (beside : AreBeside stock.ads stock.slots) (name : List ℕ) (jobs : List Job) (stored : are_stored stock.slots jobs ≡ true) (owned : All IsOwned jobs) (apart : AreNamedApart jobs) (exclusive : AreExclusive claim_of jobs) where
+  module _ (beside : AreBeside stock.ads stock.slots) (name : List ℕ) (jobs : List Job) (stored : are_stored stock.slots jobs ≡ true) (owned : All IsOwned jobs)
+      (apart : AreNamedApart jobs) (exclusive : AreExclusive claim_of jobs) where
     abbrev Fits : Answer → Type 0
     Fits a = IsClaimAnswer stock (state_of jobs) name (state_of a.1) a.0
 
@@ -131,22 +140,29 @@ module _ (stock : Stock) (moment : ℕ) (settings : List Setting) where
 
     -- by the job that is found
     claim-found : (o : Option Job) → find (is_named name) jobs ≡ o
-        → ◌≡◌ {A = State × Reply} (seen.claim (state_of jobs) name) (option_map_or (λ (q : QueuedJob). seen.claim_as (state_of jobs) q q.standing) (option_map (queued stock) o) (state_of jobs, reply.Refused why.UnknownName))
+        → ◌≡◌ {A = State × Reply} (seen.claim (state_of jobs) name)
+        (option_map_or (λ (q : QueuedJob). seen.claim_as (state_of jobs) q q.standing) (option_map (queued stock) o)
+        (state_of jobs, reply.Refused why.UnknownName))
     claim-found o found =
-        ap (λ (f : Option QueuedJob). option_map_or (λ (q : QueuedJob). seen.claim_as (state_of jobs) q q.standing) f (state_of jobs, reply.Refused why.UnknownName)) (job-seen stock name jobs)
-        ∙ ap (λ (f : Option Job). option_map_or (λ (q : QueuedJob). seen.claim_as (state_of jobs) q q.standing) (option_map (queued stock) f) (state_of jobs, reply.Refused why.UnknownName)) found
+        ap (λ (f : Option QueuedJob). option_map_or (λ (q : QueuedJob). seen.claim_as (state_of jobs) q q.standing) f
+        (state_of jobs, reply.Refused why.UnknownName)) (job-seen stock name jobs)
+        ∙ ap (λ (f : Option Job). option_map_or (λ (q : QueuedJob). seen.claim_as (state_of jobs) q q.standing) (option_map (queued stock) f)
+        (state_of jobs, reply.Refused why.UnknownName)) found
 
-    module _ (i : ℕ) (job : Job) (slots : List ℕ) (at : slice_get jobs i ≡ Some job) (named : is_named name job ≡ true) (listed : list_all (lists stock.slots) slots ≡ true) (given : names_given name (map (queued stock) jobs) ≡ map (name_in stock) slots) where
+    module _ (i : ℕ) (job : Job) (slots : List ℕ) (at : slice_get jobs i ≡ Some job) (named : is_named name job ≡ true)
+        (listed : list_all (lists stock.slots) slots ≡ true) (given : names_given name (map (queued stock) jobs) ≡ map (name_in stock) slots) where
       abbrev gained : Answer
       gained = (Ok (claims.freed_all jobs (claims.losers jobs slots)), claims.granted jobs i slots)
 
-      behind : map (queued stock) (claims.granted jobs i slots) ≡ seen.restood job.name (JobStanding.claimed (map (name_in stock) slots)) (seen.without_holders (map (name_in stock) slots) (map (queued stock) jobs))
+      behind : map (queued stock) (claims.granted jobs i slots)
+          ≡ seen.restood job.name (JobStanding.claimed (map (name_in stock) slots)) (seen.without_holders (map (name_in stock) slots) (map (queued stock) jobs))
       behind =
           granted-seen stock job.name (Stage.Claimed slots) jobs (claims.losers jobs slots) i job apart at (itself job.name)
           ∙ ap (seen.restood job.name (JobStanding.claimed (map (name_in stock) slots))) (idle-seen stock beside slots listed jobs exclusive stored)
 
       checked-fits : (failing : Option ℕ) → IfSome failing (λ slot. lists stock.slots slot ≡ true)
-          → ◌≡◌ {A = State × Reply} (seen.claim (state_of jobs) name) (seen.checked (state_of jobs) (queued stock job) (map (name_in stock) slots) (option_map (name_in stock) failing))
+          → ◌≡◌ {A = State × Reply} (seen.claim (state_of jobs) name)
+          (seen.checked (state_of jobs) (queued stock job) (map (name_in stock) slots) (option_map (name_in stock) failing))
           → Fits (option_map_or (λ slot. (Err (ClaimFault.Stale slot), with_standing jobs i Stage.Idle)) failing gained)
       checked-fits (Some slot) held is = (
         lists-contains stock.slots slot held,
@@ -156,44 +172,56 @@ module _ (stock : Stock) (moment : ℕ) (settings : List Setting) where
           pair : List QueuedJob → State × Reply
           pair queue = (then_jobs queue, reply.Refused (why.Stale (name_in stock slot)))
       checked-fits None held is =
-          is ∙ ap (λ (queue : List QueuedJob). told queue job.name (map (name_in stock) slots) (seen.losers (map (queued stock) jobs) (map (name_in stock) slots))) (sym behind)
-          ∙ ap (λ (n : List ℕ). told (map (queued stock) (claims.granted jobs i slots)) n (map (name_in stock) slots) (seen.losers (map (queued stock) jobs) (map (name_in stock) slots))) (sym ((bytes_decides name job.name).0 named))
-          ∙ ap (λ (ns : List (List ℕ)). told (map (queued stock) (claims.granted jobs i slots)) name ns (seen.losers (map (queued stock) jobs) (map (name_in stock) slots))) (sym given)
-          ∙ ap (told (map (queued stock) (claims.granted jobs i slots)) name (names_given name (map (queued stock) jobs))) (sym (losers-seen stock beside jobs apart stored slots listed))
+          is ∙ ap (λ (queue : List QueuedJob). told queue job.name (map (name_in stock) slots)
+          (seen.losers (map (queued stock) jobs) (map (name_in stock) slots))) (sym behind)
+          ∙ ap (λ (n : List ℕ). told (map (queued stock) (claims.granted jobs i slots)) n (map (name_in stock) slots)
+          (seen.losers (map (queued stock) jobs) (map (name_in stock) slots))) (sym ((bytes_decides name job.name).0 named))
+          ∙ ap (λ (ns : List (List ℕ)). told (map (queued stock) (claims.granted jobs i slots)) name ns
+          (seen.losers (map (queued stock) jobs) (map (name_in stock) slots))) (sym given)
+          ∙ ap (told (map (queued stock) (claims.granted jobs i slots)) name (names_given name (map (queued stock) jobs)))
+          (sym (losers-seen stock beside jobs apart stored slots listed))
         where
           told : List QueuedJob → List ℕ → List (List ℕ) → List (List ℕ) → State × Reply
           told queue n ns lost = (then_jobs queue, reply.Claimed n ns lost)
 
-    at-fits : (i : ℕ) (job : Job) (s : Stage) → slice_get jobs i ≡ Some (record job { standing = s }) → is_named name job ≡ true → IsOwned job → list_all (lists stock.slots) (slots_of s) ≡ true
+    at-fits : (i : ℕ) (job : Job) (s : Stage) → slice_get jobs i ≡ Some (record job { standing = s }) → is_named name job ≡ true → IsOwned job
+        → list_all (lists stock.slots) (slots_of s) ≡ true
         → names_given name (map (queued stock) jobs) ≡ names_of (named_standing stock s)
-        → ◌≡◌ {A = State × Reply} (seen.claim (state_of jobs) name) (seen.claim_as (state_of jobs) (queued stock (record job { standing = s })) (named_standing stock s))
+        → ◌≡◌ {A = State × Reply} (seen.claim (state_of jobs) name)
+        (seen.claim_as (state_of jobs) (queued stock (record job { standing = s })) (named_standing stock s))
         → Fits (claims.claimed_at moment stock settings jobs i (record job { standing = s }))
     at-fits i job Stage.Idle at named alone held given is = (refl, is)
     at-fits i job (Stage.Claimed slots) at named alone held given is = (refl, is)
     at-fits i job (Stage.Matched slots) at named alone held given is =
-        checked-fits i (record job { standing = Stage.Matched slots }) slots at named held given (claims.first_failing moment stock settings jobs (priority_of job.user settings) job.request slots)
+        checked-fits i (record job { standing = Stage.Matched slots }) slots at named held given
+        (claims.first_failing moment stock settings jobs (priority_of job.user settings) job.request slots)
         (failing-stored stock beside moment settings jobs stored owned (record job { standing = Stage.Matched slots }) alone slots held)
-        (is ∙ ap (seen.checked (state_of jobs) (queued stock (record job { standing = Stage.Matched slots })) (map (name_in stock) slots)) (failing-seen stock beside moment settings jobs stored owned (record job { standing = Stage.Matched slots }) alone slots held))
+        (is ∙ ap (seen.checked (state_of jobs) (queued stock (record job { standing = Stage.Matched slots })) (map (name_in stock) slots))
+        (failing-seen stock beside moment settings jobs stored owned (record job { standing = Stage.Matched slots }) alone slots held))
 
     given-one : (job : Job) → find (is_named name) jobs ≡ Some job → names_given name (map (queued stock) jobs) ≡ names_of (named_standing stock job.standing)
     given-one job found =
         ap (λ o. option_map_or (λ (q : QueuedJob). names_of q.standing) o []) (job-seen stock name jobs ∙ ap (option_map (queued stock)) found)
 
-    job-fits : (i : ℕ) (o : Option Job) → slice_get jobs i ≡ o → find (is_named name) jobs ≡ o → Fits (option_map_or (claims.claimed_at moment stock settings jobs i) o nobody)
+    job-fits : (i : ℕ) (o : Option Job) → slice_get jobs i ≡ o → find (is_named name) jobs ≡ o
+        → Fits (option_map_or (claims.claimed_at moment stock settings jobs i) o nobody)
     job-fits i None at found = claim-found None found
     job-fits i (Some job) at found =
-        let holds : IsOwned job × (is_stored stock.slots job ≡ true) = subst (λ (o : Option Job). IfSome o (λ j. IsOwned j × (is_stored stock.slots j ≡ true))) found (found-both stock.slots name jobs stored owned) in
+        let holds : IsOwned job × (is_stored stock.slots job ≡ true) =
+        subst (λ (o : Option Job). IfSome o (λ j. IsOwned j × (is_stored stock.slots j ≡ true))) found (found-both stock.slots name jobs stored owned) in
         at-fits i job job.standing at (named-by name jobs job found) holds.0 holds.1 (given-one job found) (claim-found (Some job) found)
 
     fits : Fits (claims.claimed moment stock settings name jobs)
     fits = by (numbered name jobs) (found-first (is_named name) jobs)
       where
-        by : (o : Option ℕ) → option_and_then (λ i. slice_get jobs i) o ≡ find (is_named name) jobs → Fits (option_map_or (λ i. option_map_or (claims.claimed_at moment stock settings jobs i) (slice_get jobs i) nobody) o nobody)
+        by : (o : Option ℕ) → option_and_then (λ i. slice_get jobs i) o ≡ find (is_named name) jobs
+            → Fits (option_map_or (λ i. option_map_or (claims.claimed_at moment stock settings jobs i) (slice_get jobs i) nobody) o nobody)
         by None found = claim-found None (sym found)
         by (Some i) found = job-fits i (slice_get jobs i) refl (sym found)
 
     -- after a claim, whatever it answers
-    pub claim-seen : (answer : Result (List Freed) ClaimFault) (new : List Job) → claims.IsClaimed answer jobs new (claims.claimed moment stock settings name jobs) → IsClaimAnswer stock (state_of jobs) name (state_of new) answer
+    pub claim-seen : (answer : Result (List Freed) ClaimFault) (new : List Job)
+        → claims.IsClaimed answer jobs new (claims.claimed moment stock settings name jobs) → IsClaimAnswer stock (state_of jobs) name (state_of new) answer
     claim-seen (Ok freed) new same = subst Fits same fits
     claim-seen (Err ClaimFault.NoJob) new same = subst Fits same fits
     claim-seen (Err (ClaimFault.WrongState state)) new same = subst Fits same fits
@@ -206,8 +234,11 @@ module _ (P : Request → Type 0) (moment : ℕ) (stock : Stock) (settings : Lis
   abbrev no_job : Answer
   no_job = (Err ClaimFault.NoJob, jobs)
 
-  checked-kept : (i : ℕ) (slots : List ℕ) (o : Option ℕ) → All (RequestIs P) (option_map_or {U = Answer} (λ slot. (Err (ClaimFault.Stale slot), with_standing jobs i Stage.Idle)) o (Ok (claims.freed_all jobs (claims.losers jobs slots)), claims.granted jobs i slots)).1
-  checked-kept i slots None = kept-standing P i (Stage.Claimed slots) (claims.all_idle jobs (claims.losers jobs slots)) (kept-idle P (claims.losers jobs slots) jobs kept)
+  checked-kept : (i : ℕ) (slots : List ℕ) (o : Option ℕ)
+      → All (RequestIs P) (option_map_or {U = Answer} (λ slot. (Err (ClaimFault.Stale slot), with_standing jobs i Stage.Idle)) o
+      (Ok (claims.freed_all jobs (claims.losers jobs slots)), claims.granted jobs i slots)).1
+  checked-kept i slots None =
+      kept-standing P i (Stage.Claimed slots) (claims.all_idle jobs (claims.losers jobs slots)) (kept-idle P (claims.losers jobs slots) jobs kept)
   checked-kept i slots (Some slot) = kept-standing P i Stage.Idle jobs kept
 
   at-kept : (i : ℕ) (job : Job) (s : Stage) → All (RequestIs P) (claims.claimed_at moment stock settings jobs i (record job { standing = s })).1
@@ -222,14 +253,18 @@ module _ (P : Request → Type 0) (moment : ℕ) (stock : Stock) (settings : Lis
   claimed-kept : All (RequestIs P) (claims.claimed moment stock settings name jobs).1
   claimed-kept = by (numbered name jobs)
     where
-      by : (o : Option ℕ) → All (RequestIs P) (option_map_or {U = Answer} (λ i. option_map_or (claims.claimed_at moment stock settings jobs i) (slice_get jobs i) no_job) o no_job).1
+      by : (o : Option ℕ)
+          → All (RequestIs P) (option_map_or {U = Answer} (λ i. option_map_or (claims.claimed_at moment stock settings jobs i) (slice_get jobs i) no_job) o
+          no_job).1
       by None = kept
       by (Some i) = job-kept i (slice_get jobs i)
 
-  after-kept : (answer : Result (List Freed) ClaimFault) (new : List Job) → claims.claimed moment stock settings name jobs ≡ (answer, new) → All (RequestIs P) new
+  after-kept : (answer : Result (List Freed) ClaimFault) (new : List Job) → claims.claimed moment stock settings name jobs ≡ (answer, new)
+      → All (RequestIs P) new
   after-kept answer new same = subst (All (RequestIs P)) (ap (λ (x : Answer). x.1) same) claimed-kept
 
-  pub claim-kept : (answer : Result (List Freed) ClaimFault) (new : List Job) → claims.IsClaimed answer jobs new (claims.claimed moment stock settings name jobs) → All (RequestIs P) new
+  pub claim-kept : (answer : Result (List Freed) ClaimFault) (new : List Job)
+      → claims.IsClaimed answer jobs new (claims.claimed moment stock settings name jobs) → All (RequestIs P) new
   claim-kept (Ok freed) new same = after-kept (Ok freed) new same
   claim-kept (Err ClaimFault.NoJob) new same = after-kept (Err ClaimFault.NoJob) new same
   claim-kept (Err (ClaimFault.WrongState state)) new same = after-kept (Err (ClaimFault.WrongState state)) new same
@@ -251,30 +286,37 @@ module _ (stock : Stock) (moment : ℕ) (settings : List Setting) (name : List �
   IsFree r = IsReleaseAnswer (here jobs) name (here (jobs_behind r)) r
 
   release-found : (o : Option Job) → find (is_named name) jobs ≡ o
-      → ◌≡◌ {A = State × Reply} (seen.release (here jobs) name) (option_map_or (λ (q : QueuedJob). seen.release_as (here jobs) q q.standing) (option_map (queued stock) o) (here jobs, reply.Refused why.UnknownName))
+      → ◌≡◌ {A = State × Reply} (seen.release (here jobs) name)
+      (option_map_or (λ (q : QueuedJob). seen.release_as (here jobs) q q.standing) (option_map (queued stock) o) (here jobs, reply.Refused why.UnknownName))
   release-found o found =
-      ap (λ (f : Option QueuedJob). option_map_or (λ (q : QueuedJob). seen.release_as (here jobs) q q.standing) f (here jobs, reply.Refused why.UnknownName)) (job-seen stock name jobs)
-      ∙ ap (λ (f : Option Job). option_map_or (λ (q : QueuedJob). seen.release_as (here jobs) q q.standing) (option_map (queued stock) f) (here jobs, reply.Refused why.UnknownName)) found
+      ap (λ (f : Option QueuedJob). option_map_or (λ (q : QueuedJob). seen.release_as (here jobs) q q.standing) f (here jobs, reply.Refused why.UnknownName))
+      (job-seen stock name jobs)
+      ∙ ap (λ (f : Option Job). option_map_or (λ (q : QueuedJob). seen.release_as (here jobs) q q.standing) (option_map (queued stock) f)
+      (here jobs, reply.Refused why.UnknownName)) found
 
   module _ (i : ℕ) (number : numbered name jobs ≡ Some i) where
     freed-one : (job : Job) → slice_get jobs i ≡ Some job → is_named name job ≡ true
-        → ◌≡◌ {A = State × Reply} (seen.release (here jobs) name) (record (here jobs) { jobs = seen.restood job.name idle (map (queued stock) jobs) }, reply.Released job.name)
+        → ◌≡◌ {A = State × Reply} (seen.release (here jobs) name)
+        (record (here jobs) { jobs = seen.restood job.name idle (map (queued stock) jobs) }, reply.Released job.name)
         → ◌≡◌ {A = State × Reply} (seen.release (here jobs) name) (here (idle_at (numbered name jobs) jobs), reply.Released name)
     freed-one job at named is =
-        is ∙ ap (λ (queue : List QueuedJob). told queue job.name) (sym (ap (λ o. map (queued stock) (idle_at o jobs)) number ∙ restood-seen stock job.name Stage.Idle jobs i job apart at (itself job.name)))
+        is ∙ ap (λ (queue : List QueuedJob). told queue job.name)
+        (sym (ap (λ o. map (queued stock) (idle_at o jobs)) number ∙ restood-seen stock job.name Stage.Idle jobs i job apart at (itself job.name)))
         ∙ ap (told (map (queued stock) (idle_at (numbered name jobs) jobs))) (sym ((bytes_decides name job.name).0 named))
       where
         told : List QueuedJob → List ℕ → State × Reply
         told queue n = (record { moment = moment; ads = stock.ads; jobs = queue; priorities = settings }, reply.Released n)
 
     at-free : (job : Job) (s : Stage) → slice_get jobs i ≡ Some (record job { standing = s }) → is_named name job ≡ true
-        → ◌≡◌ {A = State × Reply} (seen.release (here jobs) name) (seen.release_as (here jobs) (queued stock (record job { standing = s })) (named_standing stock s))
+        → ◌≡◌ {A = State × Reply} (seen.release (here jobs) name)
+        (seen.release_as (here jobs) (queued stock (record job { standing = s })) (named_standing stock s))
         → IsFree (given_back s)
     at-free job Stage.Idle at named is = (refl, is)
     at-free job (Stage.Matched slots) at named is = freed-one (record job { standing = Stage.Matched slots }) at named is
     at-free job (Stage.Claimed slots) at named is = freed-one (record job { standing = Stage.Claimed slots }) at named is
 
-    job-free : (o : Option Job) → slice_get jobs i ≡ o → find (is_named name) jobs ≡ o → IsFree (option_map_or (λ job. given_back job.standing) o (Err JobFault.NoJob))
+    job-free : (o : Option Job) → slice_get jobs i ≡ o → find (is_named name) jobs ≡ o
+        → IsFree (option_map_or (λ job. given_back job.standing) o (Err JobFault.NoJob))
     job-free None at found = release-found None found
     job-free (Some job) at found = at-free job job.standing at (named-by name jobs job found) (release-found (Some job) found)
 
@@ -286,6 +328,9 @@ module _ (stock : Stock) (moment : ℕ) (settings : List Setting) (name : List �
       by None number found = release-found None (sym found)
       by (Some i) number found = job-free i number (slice_get jobs i) refl (sym found)
 
-  pub released : (r : Result (List ℕ) JobFault) (later : List Job) → r ≡ release_answer name jobs → OnOk r (later ≡ idle_at (numbered name jobs) jobs) → OnErr r (later ≡ jobs) → IsReleaseAnswer (here jobs) name (here later) r
-  released (Ok slots) later is ok err = subst (λ (js : List Job). IsReleaseAnswer (here jobs) name (here js) (Ok slots)) (sym ok) (subst IsFree (sym is) release-seen)
-  released (Err fault) later is ok err = subst (λ (js : List Job). IsReleaseAnswer (here jobs) name (here js) (Err fault)) (sym err) (subst IsFree (sym is) release-seen)
+  pub released : (r : Result (List ℕ) JobFault) (later : List Job) → r ≡ release_answer name jobs → OnOk r (later ≡ idle_at (numbered name jobs) jobs)
+      → OnErr r (later ≡ jobs) → IsReleaseAnswer (here jobs) name (here later) r
+  released (Ok slots) later is ok err =
+      subst (λ (js : List Job). IsReleaseAnswer (here jobs) name (here js) (Ok slots)) (sym ok) (subst IsFree (sym is) release-seen)
+  released (Err fault) later is ok err =
+      subst (λ (js : List Job). IsReleaseAnswer (here jobs) name (here js) (Err fault)) (sym err) (subst IsFree (sym is) release-seen)

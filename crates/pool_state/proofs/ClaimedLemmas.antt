@@ -41,10 +41,12 @@ module _ (stock : Stock) (beside : AreBeside stock.ads stock.slots) (moment : �
 
   module _ (settings : List Setting) (jobs : List Job) (number : ℕ) (stored : are_stored stock.slots jobs ≡ true) (owned : All IsOwned jobs) where
     won-seen : (slot : ℕ) → lists stock.slots slot ≡ true → (world : PlainWorld)
-        → seen.is_won moment stock.ads settings (map (queued stock) jobs) number (name_in stock slot) world ≡ claims.is_won moment stock settings jobs number slot world
+        → seen.is_won moment stock.ads settings (map (queued stock) jobs) number (name_in stock slot) world
+        ≡ claims.is_won moment stock settings jobs number slot world
     won-seen slot listed world =
         ap (λ name. seen.is_won moment stock.ads settings (map (queued stock) jobs) number name world) called
-        ∙ ap (is_yielded number (regard_in world)) (holder-same stock beside there.place there.advert slot there.at there.slot_at jobs stored moment settings owned)
+        ∙ ap (is_yielded number (regard_in world)) (holder-same stock beside there.place there.advert slot there.at there.slot_at jobs stored moment settings
+        owned)
       where
         there : Named stock.ads stock.slots slot (named_beside stock.ads stock.slots slot)
         there = name_there stock.ads stock.slots slot beside.long listed
@@ -54,5 +56,6 @@ module _ (stock : Stock) (beside : AreBeside stock.ads stock.slots) (moment : �
 
     -- the resource passes by its name as it does by its slot
     pub passes-seen : (slot : ℕ) → lists stock.slots slot ≡ true → (world : PlainWorld)
-        → seen.passes moment stock.ads settings (map (queued stock) jobs) number (name_in stock slot) world ≡ claims.passes moment stock settings jobs number slot world
+        → seen.passes moment stock.ads settings (map (queued stock) jobs) number (name_in stock slot) world
+        ≡ claims.passes moment stock settings jobs number slot world
     passes-seen slot listed world = ap (λ b. is_docked world && b) (won-seen slot listed world)

@@ -7,7 +7,8 @@ use Rattle.pool_state.specs.Claiming.{claim, offered_for_claim, release, undecid
 use Rattle.pool_state.specs.State.{State}
 use Rattle.pool_state.specs.Step.{advertise, allowance, looks, remove, set_priority, step, submit, undecided, withdraw}
 
-pub step-Advertise : (s : State) (name : List ℕ) (lifetime : ℕ) (block : List ℕ) → step s (command.Advertise name lifetime block) ≡ advertise s name lifetime (length block) (ad_outcome block)
+pub step-Advertise : (s : State) (name : List ℕ) (lifetime : ℕ) (block : List ℕ)
+    → step s (command.Advertise name lifetime block) ≡ advertise s name lifetime (length block) (ad_outcome block)
 unfolding step
 step-Advertise s name lifetime block = refl
 

@@ -1,5 +1,6 @@
 -- One resource of a store, by its slot and by its name: whether it is offered or claimed, and the dock by which it is held.
-use Rattle.std.proofs.Common.{◌≡◌, ℕ, suc, ◌+◌, All, Bool, true, false, not, ◌&&◌, ◌||◌, cond, eqb, List, [], ◌∷◌, map, position, slice_get, take, Contains, Option, None, Some, option_map, is_none, is_some, bytes_eq, refl, sym, ◌∙◌, ap, subst}
+use Rattle.std.proofs.Common.{◌≡◌, ℕ, suc, ◌+◌, All, Bool, true, false, not, ◌&&◌, ◌||◌, cond, eqb, List, [], ◌∷◌, map, position, slice_get, take, Contains}
+use Rattle.std.proofs.Common.{Option, None, Some, option_map, is_none, is_some, bytes_eq, refl, sym, ◌∙◌, ap, subst}
 use Rattle.std.specs.List.{find, list_all, list_any, position_or_len}
 use Rattle.std.specs.Option.{option_map_or}
 use Rattle.std.proofs.lemmas.List.{take-map}
@@ -45,7 +46,8 @@ position-any : {A : Type 0} (test : A → Bool) (xs : List A) → is_some (posit
 position-any test [] = refl
 position-any test (x ∷ xs) = ap is_some (position-cons test x xs) ∙ by (test x) (some-map suc (position test xs) ∙ position-any test xs)
   where
-    by : (b : Bool) → is_some (option_map suc (position test xs)) ≡ list_any test xs → is_some (cond b (Some 0) (option_map suc (position test xs))) ≡ (b || list_any test xs)
+    by : (b : Bool) → is_some (option_map suc (position test xs)) ≡ list_any test xs
+        → is_some (cond b (Some 0) (option_map suc (position test xs))) ≡ (b || list_any test xs)
     by true rest = refl
     by false rest = rest
 
@@ -56,7 +58,8 @@ claim-held slots Stage.Idle held = refl
 claim-held slots (Stage.Matched own) held = refl
 claim-held slots (Stage.Claimed own) held = held
 
-found-held : (slots : List ℕ) (test : Job → Bool) (jobs : List Job) (job : Job) → are_stored slots jobs ≡ true → find test jobs ≡ Some job → is_stored slots job ≡ true
+found-held : (slots : List ℕ) (test : Job → Bool) (jobs : List Job) (job : Job) → are_stored slots jobs ≡ true → find test jobs ≡ Some job
+    → is_stored slots job ≡ true
 found-held slots test [] job stored found = absurd (never_found job found)
 found-held slots test (x ∷ jobs) job stored found = by (test x) found (λ later. found-held slots test jobs job parts.1 later)
   where
@@ -67,16 +70,20 @@ found-held slots test (x ∷ jobs) job stored found = by (test x) found (λ late
     by true is later = let same : x ≡ job = same_Some x job is in ap (is_stored slots) (sym same) ∙ parts.0
     by false is later = later is
 
-pub holders-stored : (stock : Stock) (settings : List Setting) (jobs : List Job) → are_stored stock.slots jobs ≡ true → AreStored stock (holder_of settings jobs)
+pub holders-stored : (stock : Stock) (settings : List Setting) (jobs : List Job) → are_stored stock.slots jobs ≡ true
+    → AreStored stock (holder_of settings jobs)
 holders-stored stock settings jobs stored = λ slot h is.
-    by slot h (find (λ job. lists (claim_of job.standing) slot) jobs) refl (sym (ap (option_map (holding_in settings slot)) (found-first (λ job. lists (claim_of job.standing) slot) jobs)) ∙ is)
+    by slot h (find (λ job. lists (claim_of job.standing) slot) jobs) refl
+    (sym (ap (option_map (holding_in settings slot)) (found-first (λ job. lists (claim_of job.standing) slot) jobs)) ∙ is)
   where
-    by : (slot : ℕ) (h : Holding) (o : Option Job) → find (λ job. lists (claim_of job.standing) slot) jobs ≡ o → option_map (holding_in settings slot) o ≡ Some h → All (Contains stock.slots) h.slots
+    by : (slot : ℕ) (h : Holding) (o : Option Job) → find (λ job. lists (claim_of job.standing) slot) jobs ≡ o
+        → option_map (holding_in settings slot) o ≡ Some h → All (Contains stock.slots) h.slots
     by slot h None found is = absurd (never_found h is)
     by slot h (Some job) found is =
         let same : holding_in settings slot job ≡ h = same_Some (holding_in settings slot job) h is in
         subst (λ (k : Holding). All (Contains stock.slots) k.slots) same
-        (all-contained stock.slots (claim_of job.standing) (claim-held stock.slots job.standing (found-held stock.slots (λ j. lists (claim_of j.standing) slot) jobs job stored found)))
+        (all-contained stock.slots (claim_of job.standing) (claim-held stock.slots job.standing
+        (found-held stock.slots (λ j. lists (claim_of j.standing) slot) jobs job stored found)))
 
 -- ---- names and slots
 
@@ -96,16 +103,21 @@ module _ (stock : Stock) (beside : AreBeside stock.ads stock.slots) where
       there = name_there stock.ads stock.slots slot beside.long listed
 
       by_name : find (is_named there.advert.name) stock.ads ≡ Some there.advert
-      by_name = find-at there.advert.name stock.ads there.place there.advert there.at refl (λ j b at_j is. beside.names j there.place b there.advert at_j there.at is)
+      by_name =
+          find-at there.advert.name stock.ads there.place there.advert there.at refl (λ j b at_j is. beside.names j there.place b there.advert at_j there.at is)
 
       by_slot : slice_get stock.ads (position_or_len (λ s. eqb s slot) stock.slots) ≡ Some there.advert
-      by_slot = ap (slice_get stock.ads) (position-at stock.slots there.place slot there.slot_at (λ j at_j. beside.apart j there.place slot at_j there.slot_at)) ∙ there.at
+      by_slot =
+          ap (slice_get stock.ads) (position-at stock.slots there.place slot there.slot_at (λ j at_j. beside.apart j there.place slot at_j there.slot_at))
+          ∙ there.at
 
-  pub frames-of-all : (slots : List ℕ) → list_all (lists stock.slots) slots ≡ true → map (λ s. seen.frames_named stock.ads (name_in stock s)) slots ≡ map (ad_in stock) slots
+  pub frames-of-all : (slots : List ℕ) → list_all (lists stock.slots) slots ≡ true
+      → map (λ s. seen.frames_named stock.ads (name_in stock s)) slots ≡ map (ad_in stock) slots
   frames-of-all [] all = refl
   frames-of-all (s ∷ slots) all =
       let parts = both (lists stock.slots s) (list_all (lists stock.slots) slots) all in
-      ap (λ f. f ∷ map (λ s. seen.frames_named stock.ads (name_in stock s)) slots) (frames-of s parts.0) ∙ ap (λ l. ad_in stock s ∷ l) (frames-of-all slots parts.1)
+      ap (λ f. f ∷ map (λ s. seen.frames_named stock.ads (name_in stock s)) slots) (frames-of s parts.0)
+      ∙ ap (λ l. ad_in stock s ∷ l) (frames-of-all slots parts.1)
 
   -- ---- at one place
 
@@ -116,24 +128,29 @@ module _ (stock : Stock) (beside : AreBeside stock.ads stock.slots) where
         ∙ listed-named stock.ads stock.slots beside place advert slot at slot_is (s ∷ []) (ap (λ b. b && true) listed)
         ∙ or-false (eqb s slot)
 
-    position-named : (slots : List ℕ) → list_all (lists stock.slots) slots ≡ true → position_or_len (bytes_eq advert.name) (map (name_in stock) slots) ≡ position_or_len (λ s. eqb s slot) slots
+    position-named : (slots : List ℕ) → list_all (lists stock.slots) slots ≡ true
+        → position_or_len (bytes_eq advert.name) (map (name_in stock) slots) ≡ position_or_len (λ s. eqb s slot) slots
     position-named [] all = refl
     position-named (s ∷ slots) all =
         let parts = both (lists stock.slots s) (list_all (lists stock.slots) slots) all in
         ap (λ b. cond (not b) (1 + position_or_len (bytes_eq advert.name) (map (name_in stock) slots)) 0) (one-named s parts.0)
         ∙ ap (λ n. cond (not (eqb s slot)) (1 + n) 0) (position-named slots parts.1)
 
-    offer-test : (standing : Stage) → list_all (lists stock.slots) (slots_of standing) ≡ true → is_listed advert.name (offer_names (named_standing stock standing)) ≡ lists (offer_of standing) slot
+    offer-test : (standing : Stage) → list_all (lists stock.slots) (slots_of standing) ≡ true
+        → is_listed advert.name (offer_names (named_standing stock standing)) ≡ lists (offer_of standing) slot
     offer-test Stage.Idle held = refl
     offer-test (Stage.Matched own) held = listed-named stock.ads stock.slots beside place advert slot at slot_is own held
     offer-test (Stage.Claimed own) held = refl
 
-    claim-test : (standing : Stage) → list_all (lists stock.slots) (slots_of standing) ≡ true → is_listed advert.name (claim_names (named_standing stock standing)) ≡ lists (claim_of standing) slot
+    claim-test : (standing : Stage) → list_all (lists stock.slots) (slots_of standing) ≡ true
+        → is_listed advert.name (claim_names (named_standing stock standing)) ≡ lists (claim_of standing) slot
     claim-test Stage.Idle held = refl
     claim-test (Stage.Matched own) held = refl
     claim-test (Stage.Claimed own) held = listed-named stock.ads stock.slots beside place advert slot at slot_is own held
 
-    found-seen : (test : Job → Bool) (passes : QueuedJob → Bool) (jobs : List Job) → are_stored stock.slots jobs ≡ true → ((job : Job) → is_stored stock.slots job ≡ true → passes (queued stock job) ≡ test job) → find passes (map (queued stock) jobs) ≡ option_map (queued stock) (find test jobs)
+    found-seen : (test : Job → Bool) (passes : QueuedJob → Bool) (jobs : List Job) → are_stored stock.slots jobs ≡ true
+        → ((job : Job) → is_stored stock.slots job ≡ true → passes (queued stock job) ≡ test job)
+        → find passes (map (queued stock) jobs) ≡ option_map (queued stock) (find test jobs)
     found-seen test passes [] stored same = refl
     found-seen test passes (job ∷ jobs) stored same =
         ap (λ b. cond b (Some (queued stock job)) (find passes (map (queued stock) jobs))) (same job parts.0)
@@ -151,7 +168,8 @@ module _ (stock : Stock) (beside : AreBeside stock.ads stock.slots) where
 
     -- the docked ads, up to it
     docked-same : (slots : List ℕ) → list_all (lists stock.slots) slots ≡ true
-        → map (seen.frames_named stock.ads) (seen.up_to advert.name (map (name_in stock) slots)) ≡ map (ad_in stock) (take (suc (position_or_len (λ s. eqb s slot) slots)) slots)
+        → map (seen.frames_named stock.ads) (seen.up_to advert.name (map (name_in stock) slots))
+        ≡ map (ad_in stock) (take (suc (position_or_len (λ s. eqb s slot) slots)) slots)
     docked-same slots all =
         let ahead = suc (position_or_len (λ s. eqb s slot) slots) in
         ap (λ k. map (seen.frames_named stock.ads) (take (suc k) (map (name_in stock) slots))) (position-named slots all)
@@ -160,30 +178,39 @@ module _ (stock : Stock) (beside : AreBeside stock.ads stock.slots) where
         ∙ frames-of-all (take ahead slots) (all-take (lists stock.slots) ahead slots all)
 
     docked-claim : (standing : Stage) → list_all (lists stock.slots) (slots_of standing) ≡ true
-        → map (seen.frames_named stock.ads) (seen.up_to advert.name (claim_names (named_standing stock standing))) ≡ map (ad_in stock) (take (suc (position_or_len (λ s. eqb s slot) (claim_of standing))) (claim_of standing))
+        → map (seen.frames_named stock.ads) (seen.up_to advert.name (claim_names (named_standing stock standing)))
+        ≡ map (ad_in stock) (take (suc (position_or_len (λ s. eqb s slot) (claim_of standing))) (claim_of standing))
     docked-claim Stage.Idle all = refl
     docked-claim (Stage.Matched own) all = refl
     docked-claim (Stage.Claimed own) all = docked-same own all
 
-    held-same : (moment : ℕ) (settings : List Setting) (job : Job) → is_stored stock.slots job ≡ true → IsOwned job → seen.held_world moment stock.ads advert.name (queued stock job) ≡ holder_world moment stock (holding_in settings slot job)
+    held-same : (moment : ℕ) (settings : List Setting) (job : Job) → is_stored stock.slots job ≡ true → IsOwned job
+        → seen.held_world moment stock.ads advert.name (queued stock job) ≡ holder_world moment stock (holding_in settings slot job)
     held-same moment settings job stored owned =
         ap (λ docked. world (ports_in (ad_frames job.request.ad)) docked) (docked-claim job.standing stored)
-        ∙ ap (λ ports. world ports (map (ad_in stock) (take (suc (position_or_len (λ s. eqb s slot) (claim_of job.standing))) (claim_of job.standing)))) (sym owned)
+        ∙ ap (λ ports. world ports (map (ad_in stock) (take (suc (position_or_len (λ s. eqb s slot) (claim_of job.standing))) (claim_of job.standing))))
+        (sym owned)
       where
         world : List Port → List (List Frame) → PlainWorld
         world ports docked = record { moment = moment; request = ad_frames job.request.ad; ports = ports; docked = docked }
 
     holds-same : (moment : ℕ) (settings : List Setting) (test : Job → Bool) (jobs : List Job) → are_stored stock.slots jobs ≡ true → All IsOwned jobs
-        → option_map (seen.held_by moment stock.ads settings advert.name) (option_map (queued stock) (find test jobs)) ≡ option_map (hold_of moment stock) (option_map (holding_in settings slot) (find test jobs))
+        → option_map (seen.held_by moment stock.ads settings advert.name) (option_map (queued stock) (find test jobs))
+        ≡ option_map (hold_of moment stock) (option_map (holding_in settings slot) (find test jobs))
     holds-same moment settings test [] stored owned = refl
     holds-same moment settings test (job ∷ jobs) stored owned = by (test job) (holds-same moment settings test jobs parts.1 (All-tail IsOwned job jobs owned))
       where
         parts : (is_stored stock.slots job ≡ true) × (are_stored stock.slots jobs ≡ true)
         parts = both (is_stored stock.slots job) (are_stored stock.slots jobs) stored
 
-        by : (b : Bool) → option_map (seen.held_by moment stock.ads settings advert.name) (option_map (queued stock) (find test jobs)) ≡ option_map (hold_of moment stock) (option_map (holding_in settings slot) (find test jobs))
-            → option_map (seen.held_by moment stock.ads settings advert.name) (option_map (queued stock) (cond b (Some job) (find test jobs))) ≡ option_map (hold_of moment stock) (option_map (holding_in settings slot) (cond b (Some job) (find test jobs)))
-        by true rest = ap (λ (w : PlainWorld). let hold : Hold = record { world = w; number = priority_of job.user settings } in Some hold) (held-same moment settings job parts.0 (All-head IsOwned job jobs owned))
+        by : (b : Bool)
+            → option_map (seen.held_by moment stock.ads settings advert.name) (option_map (queued stock) (find test jobs))
+            ≡ option_map (hold_of moment stock) (option_map (holding_in settings slot) (find test jobs))
+            → option_map (seen.held_by moment stock.ads settings advert.name) (option_map (queued stock) (cond b (Some job) (find test jobs)))
+            ≡ option_map (hold_of moment stock) (option_map (holding_in settings slot) (cond b (Some job) (find test jobs)))
+        by true rest =
+            ap (λ (w : PlainWorld). let hold : Hold = record { world = w; number = priority_of job.user settings } in Some hold)
+            (held-same moment settings job parts.0 (All-head IsOwned job jobs owned))
         by false rest = rest
 
     -- ---- as both see it
@@ -208,11 +235,14 @@ module _ (stock : Stock) (beside : AreBeside stock.ads stock.slots) where
 
       pub free-same : seen.is_free (map (queued stock) jobs) advert ≡ market.is_free jobs slot
       free-same =
-          ap (λ b. b && is_none (claimed_by advert.name (map (queued stock) jobs))) (none-some (offered_to advert.name (map (queued stock) jobs)) ∙ ap not offered-same ∙ sym (none-some (offeree slot jobs)))
-          ∙ ap (λ b. is_none (offeree slot jobs) && b) (none-some (claimed_by advert.name (map (queued stock) jobs)) ∙ ap not claimed-same ∙ sym (none-some (claimer slot jobs)))
+          ap (λ b. b && is_none (claimed_by advert.name (map (queued stock) jobs)))
+          (none-some (offered_to advert.name (map (queued stock) jobs)) ∙ ap not offered-same ∙ sym (none-some (offeree slot jobs)))
+          ∙ ap (λ b. is_none (offeree slot jobs) && b) (none-some (claimed_by advert.name (map (queued stock) jobs)) ∙ ap not claimed-same
+          ∙ sym (none-some (claimer slot jobs)))
 
       pub holder-same : (moment : ℕ) (settings : List Setting) → All IsOwned jobs
-          → option_map (seen.held_by moment stock.ads settings advert.name) (claimed_by advert.name (map (queued stock) jobs)) ≡ option_map (hold_of moment stock) (holder_of settings jobs slot)
+          → option_map (seen.held_by moment stock.ads settings advert.name) (claimed_by advert.name (map (queued stock) jobs))
+          ≡ option_map (hold_of moment stock) (holder_of settings jobs slot)
       holder-same moment settings owned =
           ap (option_map (seen.held_by moment stock.ads settings advert.name)) claimed-found
           ∙ holds-same moment settings claims_it jobs stored owned

@@ -1,13 +1,17 @@
 -- The jobs of a state as ads that are no longer live leave one after another.
-use Rattle.std.proofs.Common.{◌≡◌, ℕ, zero, suc, Bool, true, false, not, ◌&&◌, ◌||◌, cond, List, [], ◌∷◌, filter, length, slice_get, Option, Some, bytes_eq, refl, sym, ◌∙◌, ap, arith}
+use Rattle.std.proofs.Common.{◌≡◌, ℕ, zero, suc, Bool, true, false, not, ◌&&◌, ◌||◌, cond, List, [], ◌∷◌, filter, find, length, map, slice_get, Option, Some}
+use Rattle.std.proofs.Common.{bytes_eq, refl, sym, ◌∙◌, ap, arith}
 use Rattle.std.specs.List.{list_any}
 use Rattle.std.specs.Cmp.Lexicographic.{bytes_decides}
-use Rattle.ad_store.specs.Stock.{Advert, is_live, is_named, without}
+use Rattle.ad_store.specs.Stock.{Advert, Stock, expired_slots, is_live, is_named, slot_beside, slots_beside, slots_without, without}
+use Rattle.pool_state.specs.Notices.{expired_names}
+use Rattle.pool_state.specs.Pool.{name_in}
 use Rattle.pool_state.specs.Queue.{names_of, without_resources}
 use Rattle.pool_state.specs.State.{QueuedJob, idle}
 use Rattle.pool_state.specs.Step.{has_expired}
 use Rattle.pool_state.proofs.NameLemmas.{same_truth}
 use Rattle.pool_state.proofs.AdLemmas.{AreApart, apart_behind, live-le}
+use Rattle.pool_state.proofs.LossLemmas.{name-there}
 
 -- ---- names that leave
 
@@ -27,9 +31,11 @@ any-either p q (n ∷ names) = ap (λ b. (q n || p n) || b) (any-either p q name
 -- those that leave first, and then others
 pub left-twice : (p q : List ℕ → Bool) (jobs : List QueuedJob) → without_resources p (without_resources q jobs) ≡ without_resources (λ n. q n || p n) jobs
 left-twice p q [] = refl
-left-twice p q (job ∷ jobs) = ap (λ j. j ∷ without_resources p (without_resources q jobs)) one ∙ ap (λ l. freed_by (λ n. q n || p n) job ∷ l) (left-twice p q jobs)
+left-twice p q (job ∷ jobs) =
+    ap (λ j. j ∷ without_resources p (without_resources q jobs)) one ∙ ap (λ l. freed_by (λ n. q n || p n) job ∷ l) (left-twice p q jobs)
   where
-    by : (a b : Bool) → list_any p (names_of job.standing) ≡ b → freed_by p (cond a (record job { standing = idle }) job) ≡ cond (a || b) (record job { standing = idle }) job
+    by : (a b : Bool) → list_any p (names_of job.standing) ≡ b
+        → freed_by p (cond a (record job { standing = idle }) job) ≡ cond (a || b) (record job { standing = idle }) job
     by true b is = refl
     by false b is = ap (λ c. cond c (record job { standing = idle }) job) is
 
@@ -65,7 +71,8 @@ and_true true = refl
 and_true false = refl
 
 same_either_way : (a b : List ℕ) → bytes_eq a b ≡ bytes_eq b a
-same_either_way a b = same_truth _ _ (λ is. (bytes_decides b a).1 (sym ((bytes_decides a b).0 is))) (λ is. (bytes_decides a b).1 (sym ((bytes_decides b a).0 is)))
+same_either_way a b =
+    same_truth _ _ (λ is. (bytes_decides b a).1 (sym ((bytes_decides a b).0 is))) (λ is. (bytes_decides a b).1 (sym ((bytes_decides b a).0 is)))
 
 swapped : (a b c d : Bool) → d ≡ (b || c) → (a || d) ≡ (b || (a || c))
 swapped true true c d is = refl
@@ -73,9 +80,11 @@ swapped true false c d is = refl
 swapped false b c d is = is
 
 -- an ad that isn't live is the one that leaves, or one of those behind it
-pub expired-without : (now : ℕ) (name : List ℕ) (ads : List Advert) (i : ℕ) (a : Advert) → AreApart ads → slice_get ads i ≡ Some a → a.name ≡ name → is_live now a ≡ false → (n : List ℕ) → has_expired now ads n ≡ (bytes_eq name n || has_expired now (without name ads) n)
+pub expired-without : (now : ℕ) (name : List ℕ) (ads : List Advert) (i : ℕ) (a : Advert) → AreApart ads → slice_get ads i ≡ Some a → a.name ≡ name
+    → is_live now a ≡ false → (n : List ℕ) → has_expired now ads n ≡ (bytes_eq name n || has_expired now (without name ads) n)
 expired-without now name [] i a apart at is gone n = absurd (cc)
-expired-without now name (x ∷ ads) i a apart at is gone n = by (is_named name x) refl i at (λ j there. expired-without now name ads j a (apart_behind x ads apart) there is gone n)
+expired-without now name (x ∷ ads) i a apart at is gone n =
+    by (is_named name x) refl i at (λ j there. expired-without now name ads j a (apart_behind x ads apart) there is gone n)
   where
     here : (j : ℕ) → slice_get (x ∷ ads) j ≡ Some a → is_named name x ≡ true → x ≡ a
     here j there named =
@@ -83,21 +92,27 @@ expired-without now name (x ∷ ads) i a apart at is gone n = by (is_named name 
         let first : ◌≡◌ {A = Option Advert} (Some x) (Some a) = sym (ap (slice_get (x ∷ ads)) place) ∙ there in
         cc
 
-    first_case : (j : ℕ) → slice_get (x ∷ ads) j ≡ Some a → is_named name x ≡ true → ((is_named n x && not (is_live now x)) || has_expired now ads n) ≡ (bytes_eq name n || has_expired now ads n)
+    first_case : (j : ℕ) → slice_get (x ∷ ads) j ≡ Some a → is_named name x ≡ true
+        → ((is_named n x && not (is_live now x)) || has_expired now ads n) ≡ (bytes_eq name n || has_expired now ads n)
     first_case j there named =
         let dead : is_live now x ≡ false = ap (is_live now) (here j there named) ∙ gone in
         let called : bytes_eq n x.name ≡ bytes_eq name n = same_either_way n x.name ∙ ap (λ m. bytes_eq m n) (sym ((bytes_decides name x.name).0 named)) in
         ap (λ b. (is_named n x && not b) || has_expired now ads n) dead
         ∙ ap (λ b. b || has_expired now ads n) (and_true (is_named n x) ∙ called)
 
-    later_case : (j : ℕ) → slice_get (x ∷ ads) j ≡ Some a → is_named name x ≡ false → ((k : ℕ) → slice_get ads k ≡ Some a → has_expired now ads n ≡ (bytes_eq name n || has_expired now (without name ads) n)) → ((is_named n x && not (is_live now x)) || has_expired now ads n) ≡ (bytes_eq name n || ((is_named n x && not (is_live now x)) || has_expired now (without name ads) n))
+    later_case : (j : ℕ) → slice_get (x ∷ ads) j ≡ Some a → is_named name x ≡ false
+        → ((k : ℕ) → slice_get ads k ≡ Some a → has_expired now ads n ≡ (bytes_eq name n || has_expired now (without name ads) n))
+        → ((is_named n x && not (is_live now x)) || has_expired now ads n)
+        ≡ (bytes_eq name n || ((is_named n x && not (is_live now x)) || has_expired now (without name ads) n))
     later_case zero there other later =
         let same : x ≡ a = cc in
         let named : is_named name x ≡ true = (bytes_decides name x.name).1 (sym (ap (λ (y : Advert). y.name) same ∙ is)) in
         absurd (cc)
-    later_case (suc k) there other later = swapped (is_named n x && not (is_live now x)) (bytes_eq name n) (has_expired now (without name ads) n) (has_expired now ads n) (later k there)
+    later_case (suc k) there other later =
+        swapped (is_named n x && not (is_live now x)) (bytes_eq name n) (has_expired now (without name ads) n) (has_expired now ads n) (later k there)
 
-    by : (b : Bool) → is_named name x ≡ b → (j : ℕ) → slice_get (x ∷ ads) j ≡ Some a → ((k : ℕ) → slice_get ads k ≡ Some a → has_expired now ads n ≡ (bytes_eq name n || has_expired now (without name ads) n))
+    by : (b : Bool) → is_named name x ≡ b → (j : ℕ) → slice_get (x ∷ ads) j ≡ Some a
+        → ((k : ℕ) → slice_get ads k ≡ Some a → has_expired now ads n ≡ (bytes_eq name n || has_expired now (without name ads) n))
         → ((is_named n x && not (is_live now x)) || has_expired now ads n) ≡ (bytes_eq name n || has_expired now (cond b ads (x ∷ without name ads)) n)
     by true named j there later = first_case j there named
     by false named j there later = later_case j there named later
@@ -111,8 +126,105 @@ expired-none now (x ∷ ads) all n = by (is_live now x) refl all (λ rest. expir
     and_false true = refl
     and_false false = refl
 
-    by : (b : Bool) → is_live now x ≡ b → cond b (x ∷ filter (is_live now) ads) (filter (is_live now) ads) ≡ x ∷ ads → (filter (is_live now) ads ≡ ads → has_expired now ads n ≡ false) → ((is_named n x && not (is_live now x)) || has_expired now ads n) ≡ false
+    by : (b : Bool) → is_live now x ≡ b → cond b (x ∷ filter (is_live now) ads) (filter (is_live now) ads) ≡ x ∷ ads
+        → (filter (is_live now) ads ≡ ads → has_expired now ads n ≡ false) → ((is_named n x && not (is_live now x)) || has_expired now ads n) ≡ false
     by true live whole later =
         let rest : filter (is_live now) ads ≡ ads = cc in
         ap (λ b. (is_named n x && not b) || has_expired now ads n) live ∙ ap (λ b. b || has_expired now ads n) (and_false (is_named n x)) ∙ later rest
     by false dead whole later = let long = live-le now ads in absurd (omega (arith, ap length whole, long))
+
+-- ---- the slots of ads that are no longer live
+
+abbrev ended : ℕ → Advert → Bool
+ended now advert = not (is_live now advert)
+
+-- the names in the slots beside ads are those of the ads
+names-beside : (stock : Stock) (test : Advert → Bool) (ads : List Advert) (slots : List ℕ) → length ads ≡ length slots
+    → ((i slot : ℕ) (advert : Advert) → slice_get slots i ≡ Some slot → slice_get ads i ≡ Some advert → name_in stock slot ≡ advert.name)
+    → map (name_in stock) (slots_beside test ads slots) ≡ map (λ (a : Advert). a.name) (filter test ads)
+names-beside stock test [] slots long called = refl
+names-beside stock test (x ∷ ads) [] long called = absurd (omega (arith, long))
+names-beside stock test (x ∷ ads) (s ∷ slots) long called =
+    by (test x) (names-beside stock test ads slots (omega (arith, long)) (λ i slot advert at_s at_a. called (suc i) slot advert at_s at_a))
+  where
+    by : (b : Bool) → map (name_in stock) (slots_beside test ads slots) ≡ map (λ (a : Advert). a.name) (filter test ads)
+        → map (name_in stock) (cond b (s ∷ slots_beside test ads slots) (slots_beside test ads slots))
+        ≡ map (λ (a : Advert). a.name) (cond b (x ∷ filter test ads) (filter test ads))
+    by true rest = λ k. called 0 s x refl refl k ∷ rest k
+    by false rest = rest
+
+-- the names in the slots of a stock's ads that are no longer live
+pub expired-named : (stock : Stock) → length stock.ads ≡ length stock.slots
+    → ((i j slot : ℕ) → slice_get stock.slots i ≡ Some slot → slice_get stock.slots j ≡ Some slot → i ≡ j)
+    → (now : ℕ) → map (name_in stock) (expired_slots now stock) ≡ expired_names now stock.ads
+expired-named stock long apart now =
+    names-beside stock (ended now) stock.ads stock.slots long (λ i slot advert at_s at_a. name-there stock apart i slot advert at_s at_a)
+
+-- the first of the slots beside the ads that pass
+pub first-beside : (test : Advert → Bool) (ads : List Advert) (slots : List ℕ) (slot : ℕ) (more : List ℕ) → slots_beside test ads slots ≡ slot ∷ more
+    → slot_beside test ads slots ≡ Some slot
+first-beside test [] slots slot more is = absurd (cc)
+first-beside test (x ∷ ads) [] slot more is = absurd (cc)
+first-beside test (x ∷ ads) (s ∷ slots) slot more is = by (test x) is (first-beside test ads slots slot more)
+  where
+    by : (b : Bool) → cond b (s ∷ slots_beside test ads slots) (slots_beside test ads slots) ≡ slot ∷ more
+        → (slots_beside test ads slots ≡ slot ∷ more → slot_beside test ads slots ≡ Some slot) → cond b (Some s) (slot_beside test ads slots) ≡ Some slot
+    by true here later = cc
+    by false here later = later here
+
+-- the slots beside the ads that pass, once the ad of a name has left
+abbrev left_beside : List ℕ → (Advert → Bool) → List Advert → List ℕ → List ℕ
+left_beside name test ads slots = slots_beside test (without name ads) (slots_without name ads slots)
+
+-- where the ad in the first of them leaves by its name, the others are left
+pub others-beside : (test : Advert → Bool) (ads : List Advert) (slots : List ℕ) (slot : ℕ) (name : List ℕ) (i : ℕ) (a : Advert) → AreApart ads
+    → slice_get ads i ≡ Some a → a.name ≡ name → test a ≡ true → slot_beside test ads slots ≡ Some slot → find test ads ≡ Some a
+    → slots_beside test ads slots ≡ slot ∷ left_beside name test ads slots
+others-beside test [] slots slot name i a apart at is passes first found = absurd (cc)
+others-beside test (x ∷ ads) [] slot name i a apart at is passes first found = absurd (cc)
+others-beside test (x ∷ ads) (s ∷ slots) slot name i a apart at is passes first found =
+    by (test x) refl first found i at (λ j there f g. others-beside test ads slots slot name j a (apart_behind x ads apart) there is passes f g)
+  where
+    Later : Type 0
+    Later = (j : ℕ) → slice_get ads j ≡ Some a → slot_beside test ads slots ≡ Some slot → find test ads ≡ Some a
+        → slots_beside test ads slots ≡ slot ∷ left_beside name test ads slots
+
+    goes : is_named name x ≡ true → left_beside name test (x ∷ ads) (s ∷ slots) ≡ slots_beside test ads slots
+    goes named = ap (λ b. slots_beside test (cond b ads (x ∷ without name ads)) (cond b slots (s ∷ slots_without name ads slots))) named
+
+    stays : test x ≡ false → is_named name x ≡ false
+        → left_beside name test (x ∷ ads) (s ∷ slots) ≡ left_beside name test ads slots
+    stays fails other =
+        ap (λ b. slots_beside test (cond b ads (x ∷ without name ads)) (cond b slots (s ∷ slots_without name ads slots))) other
+        ∙ ap (λ b. cond b (s ∷ left_beside name test ads slots) (left_beside name test ads slots)) fails
+
+    other_name : (j : ℕ) → slice_get (x ∷ ads) (suc j) ≡ Some a → (b : Bool) → is_named name x ≡ b → b ≡ false
+    other_name j there true named = let clash : suc j ≡ 0 = apart (suc j) 0 a x there refl (is ∙ (bytes_decides name x.name).0 named) in absurd (cc)
+    other_name j there false named = refl
+
+    by : (b : Bool) → test x ≡ b → cond b (Some s) (slot_beside test ads slots) ≡ Some slot → cond b (Some x) (find test ads) ≡ Some a → (j : ℕ)
+        → slice_get (x ∷ ads) j ≡ Some a → Later
+        → cond b (s ∷ slots_beside test ads slots) (slots_beside test ads slots) ≡ slot ∷ left_beside name test (x ∷ ads) (s ∷ slots)
+    by true p f g j there later =
+        let same : x ≡ a = cc in
+        let here : s ≡ slot = cc in
+        let named : is_named name x ≡ true = (bytes_decides name x.name).1 (sym is ∙ ap (λ (y : Advert). y.name) (sym same)) in
+        λ k. here k ∷ (sym (goes named)) k
+    by false p f g zero there later =
+        let same : x ≡ a = cc in
+        let clash : ◌≡◌ {A = Bool} true false = sym passes ∙ ap test (sym same) ∙ p in
+        absurd (cc)
+    by false p f g (suc j) there later = later j there f g ∙ ap (λ l. slot ∷ l) (sym (stays p (other_name j there (is_named name x) refl)))
+
+-- where there are none all ads are live
+pub none-beside : (now : ℕ) (ads : List Advert) (slots : List ℕ) → length ads ≡ length slots
+    → slots_beside (ended now) ads slots ≡ [] → filter (is_live now) ads ≡ ads
+none-beside now [] slots long none = refl
+none-beside now (x ∷ ads) [] long none = absurd (omega (arith, long))
+none-beside now (x ∷ ads) (s ∷ slots) long none = by (is_live now x) none (none-beside now ads slots (omega (arith, long)))
+  where
+    by : (b : Bool) → cond (not b) (s ∷ slots_beside (ended now) ads slots) (slots_beside (ended now) ads slots) ≡ []
+        → (slots_beside (ended now) ads slots ≡ [] → filter (is_live now) ads ≡ ads)
+        → cond b (x ∷ filter (is_live now) ads) (filter (is_live now) ads) ≡ x ∷ ads
+    by true is later = ap (λ l. x ∷ l) (later is)
+    by false is later = absurd (cc)

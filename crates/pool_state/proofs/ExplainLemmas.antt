@@ -1,5 +1,6 @@
 -- A job that is explained, by its place in the table of jobs and by its name in the state.
-use Rattle.std.proofs.Common.{◌≡◌, ◌∙◌, ap, sym, ℕ, zero, suc, ◌+◌, ◌++◌, add-one, take, ◌<◌, ◌≤◌, All, List, [], ◌∷◌, length, map, Option, None, Some, option_map, slice_get, subst, refl, arith}
+use Rattle.std.proofs.Common.{◌≡◌, ◌∙◌, ap, sym, ℕ, zero, suc, ◌+◌, ◌++◌, add-one, take, ◌<◌, ◌≤◌, All, List, [], ◌∷◌, length, map, Option, None, Some}
+use Rattle.std.proofs.Common.{option_map, slice_get, subst, refl, arith}
 use Rattle.std.specs.Option.{option_and_then, option_map_or}
 use Rattle.std.proofs.lemmas.List.Elements.{All-head, All-tail}
 use Rattle.std.proofs.lemmas.Option.{none-some, same_Some}
@@ -30,7 +31,8 @@ pub record Requests (jobs : List Job) (i : ℕ) (request : Request) : Type 0 whe
   pub at : slice_get jobs i ≡ Some job
   pub request_is : job.request ≡ request
 
-pub requests : (jobs : List Job) (i : ℕ) (request : Request) → option_map (λ (job : Job). job.request) (slice_get jobs i) ≡ Some request → Requests jobs i request
+pub requests : (jobs : List Job) (i : ℕ) (request : Request) → option_map (λ (job : Job). job.request) (slice_get jobs i) ≡ Some request
+    → Requests jobs i request
 requests jobs i request is = by (slice_get jobs i) refl is
   where
     by : (o : Option Job) → slice_get jobs i ≡ o → option_map (λ (job : Job). job.request) o ≡ Some request → Requests jobs i request
@@ -49,10 +51,13 @@ nobody stock jobs name none =
     job-seen stock name jobs
     ∙ ap (option_map (queued stock)) (sym (found-first (is_named name) jobs) ∙ ap (option_and_then (λ i. slice_get jobs i)) none)
 
-pub explain-unknown : (moment : ℕ) (ads : List Advert) (jobs : List QueuedJob) (name : List ℕ) → job_named name jobs ≡ None → explain moment ads jobs name ≡ reply.Refused why.UnknownName
-explain-unknown moment ads jobs name none = ap (λ o. option_map_or (λ (job : QueuedJob). explain_job moment ads job (ports_in job.ad)) o (reply.Refused why.UnknownName)) none
+pub explain-unknown : (moment : ℕ) (ads : List Advert) (jobs : List QueuedJob) (name : List ℕ) → job_named name jobs ≡ None
+    → explain moment ads jobs name ≡ reply.Refused why.UnknownName
+explain-unknown moment ads jobs name none =
+    ap (λ o. option_map_or (λ (job : QueuedJob). explain_job moment ads job (ports_in job.ad)) o (reply.Refused why.UnknownName)) none
 
-module _ (stock : Stock) (jobs : List Job) (owned : All IsOwned jobs) (name : List ℕ) (i : ℕ) (number : numbered name jobs ≡ Some i) (request : Request) (there : option_map (λ (job : Job). job.request) (slice_get jobs i) ≡ Some request) where
+module _ (stock : Stock) (jobs : List Job) (owned : All IsOwned jobs) (name : List ℕ) (i : ℕ) (number : numbered name jobs ≡ Some i) (request : Request)
+    (there : option_map (λ (job : Job). job.request) (slice_get jobs i) ≡ Some request) where
   it : Requests jobs i request
   it = requests jobs i request there
 
@@ -90,14 +95,16 @@ module _ (stock : Stock) (jobs : List Job) (owned : All IsOwned jobs) (name : Li
       named : it.job.name ≡ called
       named = same_Some it.job.name called same
 
-  pub evaluations-single : request.ports ≡ [] → explained_evaluations stock.ads (map (queued stock) jobs) name ≡ evaluations_most (ad_frames request.ad) stock.ads
+  pub evaluations-single : request.ports ≡ []
+      → explained_evaluations stock.ads (map (queued stock) jobs) name ≡ evaluations_most (ad_frames request.ad) stock.ads
   evaluations-single single =
       ap (λ o. option_map_or (λ (job : QueuedJob). job_evaluations stock.ads job (ports_in job.ad)) o 0) found
       ∙ ap (job_evaluations stock.ads (queued stock it.job)) (ports-are ∙ single)
       ∙ ap (λ (r : Request). evaluations_most (ad_frames r.ad) stock.ads) it.request_is
 
   pub small-request : AreSmallJobs jobs → IsSmall (ad_frames request.ad)
-  small-request small = subst (λ (r : Request). IsSmall (ad_frames r.ad)) it.request_is (at-place (λ (job : Job). IsSmall (ad_frames job.request.ad)) jobs i it.job small it.at)
+  small-request small =
+      subst (λ (r : Request). IsSmall (ad_frames r.ad)) it.request_is (at-place (λ (job : Job). IsSmall (ad_frames job.request.ad)) jobs i it.job small it.at)
 
 -- no ports, where there are no more than none
 pub no-ports : (ports : List Port) (n : ℕ) → n ≡ length ports → n ≤ 0 → ports ≡ []
@@ -106,11 +113,13 @@ no-ports (port ∷ ports) n is none = absurd (omega (arith, is, none))
 
 -- ---- names
 
-names-suc : (ads : List Advert) (i : ℕ) (name : List ℕ) → option_map (λ (a : Advert). a.name) (slice_get ads i) ≡ Some name → ad_names (take i ads) ++ name ∷ [] ≡ ad_names (take (suc i) ads)
+names-suc : (ads : List Advert) (i : ℕ) (name : List ℕ) → option_map (λ (a : Advert). a.name) (slice_get ads i) ≡ Some name
+    → ad_names (take i ads) ++ name ∷ [] ≡ ad_names (take (suc i) ads)
 names-suc [] i name is = absurd (cc)
 names-suc (a ∷ ads) zero name is = let same : a.name ≡ name = cc in ap (λ (n : List ℕ). n ∷ []) (sym same)
 names-suc (a ∷ ads) (suc i) name is = ap (λ rest. a.name ∷ rest) (names-suc ads i name is)
 
 -- one name more
-pub names-next : (ads : List Advert) (i : ℕ) (name : List ℕ) (old new : List (List ℕ)) → option_map (λ (a : Advert). a.name) (slice_get ads i) ≡ Some name → old ≡ ad_names (take i ads) → new ≡ old ++ name ∷ [] → new ≡ ad_names (take (i + 1) ads)
+pub names-next : (ads : List Advert) (i : ℕ) (name : List ℕ) (old new : List (List ℕ)) → option_map (λ (a : Advert). a.name) (slice_get ads i) ≡ Some name
+    → old ≡ ad_names (take i ads) → new ≡ old ++ name ∷ [] → new ≡ ad_names (take (i + 1) ads)
 names-next ads i name old new is so_far added = rw (add-one i) (added ∙ ap (λ names. names ++ name ∷ []) so_far ∙ names-suc ads i name is)

@@ -1,5 +1,6 @@
 -- The first resource of an offer that doesn't pass, by slots and by names, and what a claim may count.
-use Rattle.std.proofs.Common.{◌≡◌, ℕ, zero, suc, ◌+◌, ◌<◌, ◌≤◌, All, Bool, true, false, not, cond, if◌then◌else◌, List, [], ◌∷◌, length, map, sum_by, Option, None, Some, option_map, IfSome, refl, sym, ◌∙◌, ap, arith}
+use Rattle.std.proofs.Common.{◌≡◌, ℕ, zero, suc, ◌+◌, ◌<◌, ◌≤◌, All, Bool, true, false, not, cond, if◌then◌else◌, List, [], ◌∷◌, length, map, sum_by, Option}
+use Rattle.std.proofs.Common.{None, Some, option_map, IfSome, refl, sym, ◌∙◌, ap, arith}
 use Rattle.std.specs.Prelude.{slice_index}
 use Rattle.std.specs.List.{find, list_all, range_with_len}
 use Rattle.std.specs.Option.{option_map_or}
@@ -53,34 +54,40 @@ found-alike p q f g h a (suc n) end fits same =
     by true is later = ap (λ x. Some x) is
     by false is later = later
 
-found-holds : (q : ℕ → Bool) (g : ℕ → ℕ) (P : ℕ → Type 0) (a n end : ℕ) → a + n ≤ end → ((port : ℕ) → port < end → P (g port)) → IfSome (option_map g (find q (range_with_len a n))) P
+found-holds : (q : ℕ → Bool) (g : ℕ → ℕ) (P : ℕ → Type 0) (a n end : ℕ) → a + n ≤ end → ((port : ℕ) → port < end → P (g port))
+    → IfSome (option_map g (find q (range_with_len a n))) P
 found-holds q g P a zero end fits holds = tt
 found-holds q g P a (suc n) end fits holds = by (q a) (found-holds q g P (a + 1) n end (omega (arith, fits)) holds)
   where
-    by : (b : Bool) → IfSome (option_map g (find q (range_with_len (a + 1) n))) P → IfSome (option_map g (cond b (Some a) (find q (range_with_len (a + 1) n)))) P
+    by : (b : Bool) → IfSome (option_map g (find q (range_with_len (a + 1) n))) P
+        → IfSome (option_map g (cond b (Some a) (find q (range_with_len (a + 1) n)))) P
     by true later = holds a (omega (arith, fits))
     by false later = later
 
 -- ---- the job of a name
 
-pub job-seen : (stock : Stock) (name : List ℕ) (jobs : List Job) → seen.job_named name (map (queued stock) jobs) ≡ option_map (queued stock) (find (is_named name) jobs)
+pub job-seen : (stock : Stock) (name : List ℕ) (jobs : List Job)
+    → seen.job_named name (map (queued stock) jobs) ≡ option_map (queued stock) (find (is_named name) jobs)
 job-seen stock name [] = refl
 job-seen stock name (job ∷ jobs) = by (is_named name job) (job-seen stock name jobs)
   where
     by : (b : Bool) → find (is_job name) (map (queued stock) jobs) ≡ option_map (queued stock) (find (is_named name) jobs)
-        → cond b (Some (queued stock job)) (find (is_job name) (map (queued stock) jobs)) ≡ option_map (queued stock) (cond b (Some job) (find (is_named name) jobs))
+        → cond b (Some (queued stock job)) (find (is_job name) (map (queued stock) jobs))
+        ≡ option_map (queued stock) (cond b (Some job) (find (is_named name) jobs))
     by true rest = refl
     by false rest = rest
 
 -- what holds of a job that is found
-pub found-both : (slots : List ℕ) (name : List ℕ) (jobs : List Job) → are_stored slots jobs ≡ true → All IsOwned jobs → IfSome (find (is_named name) jobs) (λ job. IsOwned job × (is_stored slots job ≡ true))
+pub found-both : (slots : List ℕ) (name : List ℕ) (jobs : List Job) → are_stored slots jobs ≡ true → All IsOwned jobs
+    → IfSome (find (is_named name) jobs) (λ job. IsOwned job × (is_stored slots job ≡ true))
 found-both slots name [] stored owned = tt
 found-both slots name (job ∷ jobs) stored owned = by (is_named name job) (found-both slots name jobs parts.1 (All-tail IsOwned job jobs owned))
   where
     parts : (is_stored slots job ≡ true) × (are_stored slots jobs ≡ true)
     parts = both (is_stored slots job) (are_stored slots jobs) stored
 
-    by : (b : Bool) → IfSome (find (is_named name) jobs) (λ j. IsOwned j × (is_stored slots j ≡ true)) → IfSome (cond b (Some job) (find (is_named name) jobs)) (λ j. IsOwned j × (is_stored slots j ≡ true))
+    by : (b : Bool) → IfSome (find (is_named name) jobs) (λ j. IsOwned j × (is_stored slots j ≡ true))
+        → IfSome (cond b (Some job) (find (is_named name) jobs)) (λ j. IsOwned j × (is_stored slots j ≡ true))
     by true rest = (All-head IsOwned job jobs owned, parts.0)
     by false rest = rest
 
@@ -96,7 +103,8 @@ offer-held slots (Stage.Claimed own) held = refl
 
 -- ---- an offer
 
-module _ (stock : Stock) (beside : AreBeside stock.ads stock.slots) (moment : ℕ) (settings : List Setting) (jobs : List Job) (stored : are_stored stock.slots jobs ≡ true) (owned : All IsOwned jobs) where
+module _ (stock : Stock) (beside : AreBeside stock.ads stock.slots) (moment : ℕ) (settings : List Setting) (jobs : List Job)
+    (stored : are_stored stock.slots jobs ≡ true) (owned : All IsOwned jobs) where
   abbrev state : State
   state = record { moment = moment; ads = stock.ads; jobs = map (queued stock) jobs; priorities = settings }
 
@@ -109,7 +117,9 @@ module _ (stock : Stock) (beside : AreBeside stock.ads stock.slots) (moment : �
     number = priority_of job.user settings
 
     abbrev fails_named : ℕ → Bool
-    fails_named port = not (seen.passes moment stock.ads settings (map (queued stock) jobs) number (seen.name_at names port) (seen.world_at moment stock.ads (queued stock job) names port))
+    fails_named port =
+        not (seen.passes moment stock.ads settings (map (queued stock) jobs) number (seen.name_at names port)
+        (seen.world_at moment stock.ads (queued stock job) names port))
 
     abbrev fails_slots : ℕ → Bool
     fails_slots port = not (claims.passes moment stock settings jobs number (slice_index slots port) (claims.world_at moment stock job.request slots port))
@@ -117,14 +127,18 @@ module _ (stock : Stock) (beside : AreBeside stock.ads stock.slots) (moment : �
     each : (port : ℕ) → port < length slots → (fails_named port ≡ fails_slots port) × (seen.name_at names port ≡ name_in stock (slice_index slots port))
     each port within =
         let name = name-at (name_in stock) slots port within in (
-          ap (λ n. not (seen.passes moment stock.ads settings (map (queued stock) jobs) number n (seen.world_at moment stock.ads (queued stock job) names port))) name
-              ∙ ap (λ w. not (seen.passes moment stock.ads settings (map (queued stock) jobs) number (name_in stock (slice_index slots port)) w)) (world-seen stock beside moment job alone slots listed port)
-              ∙ ap not (passes-seen stock beside moment settings jobs number stored owned (slice_index slots port) (slot-at (lists stock.slots) slots port listed within) (claims.world_at moment stock job.request slots port)),
+          ap (λ n. not (seen.passes moment stock.ads settings (map (queued stock) jobs) number n
+              (seen.world_at moment stock.ads (queued stock job) names port))) name
+              ∙ ap (λ w. not (seen.passes moment stock.ads settings (map (queued stock) jobs) number (name_in stock (slice_index slots port)) w))
+              (world-seen stock beside moment job alone slots listed port)
+              ∙ ap not (passes-seen stock beside moment settings jobs number stored owned (slice_index slots port)
+              (slot-at (lists stock.slots) slots port listed within) (claims.world_at moment stock job.request slots port)),
           name,
         )
 
     -- the first that fails
-    pub failing-seen : seen.first_failing state (queued stock job) (map (name_in stock) slots) ≡ option_map (name_in stock) (claims.first_failing moment stock settings jobs number job.request slots)
+    pub failing-seen : seen.first_failing state (queued stock job) (map (name_in stock) slots)
+        ≡ option_map (name_in stock) (claims.first_failing moment stock settings jobs number job.request slots)
     failing-seen =
         ap (λ n. option_map (seen.name_at names) (find fails_named (range_with_len 0 n))) (length-names (name_in stock) slots)
         ∙ found-alike fails_named fails_slots (seen.name_at names) (slice_index slots) (name_in stock) 0 (length slots) (length slots) (omega arith) each
@@ -135,17 +149,21 @@ module _ (stock : Stock) (beside : AreBeside stock.ads stock.slots) (moment : �
         found-holds fails_slots (slice_index slots) (λ slot. lists stock.slots slot ≡ true) 0 (length slots) (length slots) (omega arith)
         (λ port within. slot-at (lists stock.slots) slots port listed within)
 
-    undecided-one : seen.undecided_in state (queued stock job) names ≡ sum_by (λ port. if is_last_decided (claims.world_at moment stock job.request slots port) then 0 else 1) (claims.ports_of slots)
+    undecided-one : seen.undecided_in state (queued stock job) names
+        ≡ sum_by (λ port. if is_last_decided (claims.world_at moment stock job.request slots port) then 0 else 1) (claims.ports_of slots)
     undecided-one =
-        ap (λ n. sum_by (λ port. if is_last_decided (seen.world_at moment stock.ads (queued stock job) names port) then 0 else 1) (range_with_len 0 n)) (length-names (name_in stock) slots)
-        ∙ (λ i. sum_by (λ port. if is_last_decided (world-seen stock beside moment job alone slots listed port i) then 0 else 1) (range_with_len 0 (length slots)))
+        ap (λ n. sum_by (λ port. if is_last_decided (seen.world_at moment stock.ads (queued stock job) names port) then 0 else 1) (range_with_len 0 n))
+        (length-names (name_in stock) slots)
+        ∙ (λ i. sum_by (λ port. if is_last_decided (world-seen stock beside moment job alone slots listed port i) then 0 else 1)
+        (range_with_len 0 (length slots)))
 
   -- ---- what is counted
 
   abbrev undecided : Job → ℕ
   undecided job = claims.sum_over (λ slot world. if is_last_decided world then 0 else 1) moment stock job
 
-  undecided-job : (job : Job) → IsOwned job → is_stored stock.slots job ≡ true → seen.undecided_in state (queued stock job) (offer_names (named_standing stock job.standing)) ≡ undecided job
+  undecided-job : (job : Job) → IsOwned job → is_stored stock.slots job ≡ true
+      → seen.undecided_in state (queued stock job) (offer_names (named_standing stock job.standing)) ≡ undecided job
   undecided-job job alone held =
       ap (seen.undecided_in state (queued stock job)) (offer-names stock job.standing)
       ∙ undecided-one job alone (offer_of job.standing) (offer-held stock.slots job.standing held)
@@ -168,6 +186,8 @@ module _ (stock : Stock) (beside : AreBeside stock.ads stock.slots) (moment : �
       ∙ by (find (is_named name) jobs)
       ∙ sym (ap (λ o. length (option_map_or (λ (j : Job). offer_of j.standing) o [])) (found-first (is_named name) jobs))
     where
-      by : (o : Option Job) → option_map_or (λ (q : QueuedJob). length (offer_names q.standing)) (option_map (queued stock) o) 0 ≡ length (option_map_or (λ (j : Job). offer_of j.standing) o [])
+      by : (o : Option Job)
+          → option_map_or (λ (q : QueuedJob). length (offer_names q.standing)) (option_map (queued stock) o) 0
+          ≡ length (option_map_or (λ (j : Job). offer_of j.standing) o [])
       by None = refl
       by (Some job) = ap length (offer-names stock job.standing) ∙ length-names (name_in stock) (offer_of job.standing)

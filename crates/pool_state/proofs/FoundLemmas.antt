@@ -1,5 +1,6 @@
 -- What jobs find among the resources of a store, by slots and by names.
-use Rattle.std.proofs.Common.{◌≡◌, ℕ, suc, ◌+◌, ◌<◌, ◌≤◌, All, Bool, false, true, if◌then◌else◌, List, [], ◌∷◌, length, map, slice_get, Option, None, Some, option_map, IfSome, refl, sym, ◌∙◌, ap, arith}
+use Rattle.std.proofs.Common.{◌≡◌, ℕ, suc, ◌+◌, ◌<◌, ◌≤◌, All, Bool, false, true, if◌then◌else◌, List, [], ◌∷◌, length, map, slice_get, Option, None, Some}
+use Rattle.std.proofs.Common.{option_map, IfSome, refl, sym, ◌∙◌, ap, arith}
 use Rattle.std.specs.List.{cons_option}
 use Rattle.std.specs.Option.{option_and_then}
 use Rattle.std.specs.Ordering.{is_lt}
@@ -39,9 +40,11 @@ first-all P (m ∷ ms) all = by (first_of ms) (first-all P ms (All-tail P m ms a
     by None holds = All-head P m ms all
     by (Some other) holds = choose other (is_lt (member_order other m)) holds
 
-members-within : (pool : Pool) (request : List Frame) (number n k : ℕ) (ads : List Advert) → k + length ads ≤ n → All (λ (m : Member). m.place < n) (members_from pool request number k ads)
+members-within : (pool : Pool) (request : List Frame) (number n k : ℕ) (ads : List Advert) → k + length ads ≤ n
+    → All (λ (m : Member). m.place < n) (members_from pool request number k ads)
 members-within pool request number n k [] fits = All-nil (λ (m : Member). m.place < n)
-members-within pool request number n k (a ∷ ads) fits = by (is_member pool request number k a) (members-within pool request number n (suc k) ads (omega (arith, fits)))
+members-within pool request number n k (a ∷ ads) fits =
+    by (is_member pool request number k a) (members-within pool request number n (suc k) ads (omega (arith, fits)))
   where
     by : (b : Bool) → All (λ (m : Member). m.place < n) (members_from pool request number (suc k) ads)
         → All (λ (m : Member). m.place < n) (cons_option (if b then Some (as_member pool request k a) else None) (members_from pool request number (suc k) ads))
@@ -50,11 +53,13 @@ members-within pool request number n k (a ∷ ads) fits = by (is_member pool req
 
 best-within : (pool : Pool) (request : List Frame) (number : ℕ) → IfSome (best pool request number) (λ m. m.place < length pool.ads)
 best-within pool request number =
-    first-all (λ (m : Member). m.place < length pool.ads) (members_from pool request number 0 pool.ads) (members-within pool request number (length pool.ads) 0 pool.ads (omega arith))
+    first-all (λ (m : Member). m.place < length pool.ads) (members_from pool request number 0 pool.ads)
+    (members-within pool request number (length pool.ads) 0 pool.ads (omega arith))
 
 -- ---- what jobs find
 
-module _ (stock : Stock) (beside : AreBeside stock.ads stock.slots) (moment : ℕ) (settings : List Setting) (jobs : List Job) (stored : are_stored stock.slots jobs ≡ true) (owned : All IsOwned jobs) where
+module _ (stock : Stock) (beside : AreBeside stock.ads stock.slots) (moment : ℕ) (settings : List Setting) (jobs : List Job)
+    (stored : are_stored stock.slots jobs ≡ true) (owned : All IsOwned jobs) where
   abbrev pool_seen : Pool
   pool_seen = seen.pool_in moment stock.ads settings (map (queued stock) jobs)
 
@@ -74,9 +79,12 @@ module _ (stock : Stock) (beside : AreBeside stock.ads stock.slots) (moment : �
       by (Some m) within = ap (λ (n : List ℕ). Some (n ∷ [])) (name-of stock beside m.place within)
 
   -- what a request with these ports finds
-  found-with : (number : ℕ) (request : List Frame) (ports : List Port) → option_map (map names_at) (seen.places_for pool_seen number request ports) ≡ option_map (map (name_in stock)) (market.found_by stock pool_here number request ports)
+  found-with : (number : ℕ) (request : List Frame) (ports : List Port)
+      → option_map (map names_at) (seen.places_for pool_seen number request ports)
+      ≡ option_map (map (name_in stock)) (market.found_by stock pool_here number request ports)
   found-with number request [] =
-      ap (λ o. option_map (map names_at) (option_map (λ (m : Member). m.place ∷ []) o)) (best-seen stock beside moment settings jobs stored owned number request) ∙ best-named number request
+      ap (λ o. option_map (map names_at) (option_map (λ (m : Member). m.place ∷ []) o))
+      (best-seen stock beside moment settings jobs stored owned number request) ∙ best-named number request
   found-with number request (port ∷ ports) = gang-names stock beside moment settings jobs stored owned request (port ∷ ports)
 
   owned-at : (i : ℕ) → IfSome (slice_get jobs i) IsOwned
@@ -89,11 +97,13 @@ module _ (stock : Stock) (beside : AreBeside stock.ads stock.slots) (moment : �
   abbrev seen_for : QueuedJob → Option (List (List ℕ))
   seen_for job = option_map (map names_at) (seen.places_for pool_seen (priority_of job.user settings) job.ad (ports_in job.ad))
 
-  pub find-seen : (i : ℕ) → seen.found moment stock.ads settings (map (queued stock) jobs) i ≡ option_map (map (name_in stock)) (market.found moment stock settings jobs i)
+  pub find-seen : (i : ℕ)
+      → seen.found moment stock.ads settings (map (queued stock) jobs) i ≡ option_map (map (name_in stock)) (market.found moment stock settings jobs i)
   find-seen i = ap (option_and_then seen_for) (slice_get-map (queued stock) jobs i) ∙ by (slice_get jobs i) (owned-at i)
     where
       by : (o : Option Job) → IfSome o IsOwned → option_and_then seen_for (option_map (queued stock) o)
-          ≡ option_map (map (name_in stock)) (option_and_then (λ (job : Job). market.found_for moment stock settings jobs (priority_of job.user settings) job.request) o)
+          ≡ option_map (map (name_in stock)) (option_and_then
+          (λ (job : Job). market.found_for moment stock settings jobs (priority_of job.user settings) job.request) o)
       by None own = refl
       by (Some job) own =
           ap (λ ports. option_map (map names_at) (seen.places_for pool_seen (priority_of job.user settings) (ad_frames job.request.ad) ports)) (sym own)

@@ -23,7 +23,8 @@ use Rattle.pool_state.proofs.StepLemmas.{no_fault}
 
 module _ (moment : ℕ) (ads : List Advert) (settings : List Setting) (jobs : List QueuedJob) where
   -- a text that has a fault
-  pub gang-faulty : (outcome : Result Inline ParseFault) (fault : ParseFault) → IsAdAnswer outcome (Err fault) → is_fault_of_text fault ≡ true → gang moment ads settings jobs outcome ≡ Refused (AdText fault)
+  pub gang-faulty : (outcome : Result Inline ParseFault) (fault : ParseFault) → IsAdAnswer outcome (Err fault) → is_fault_of_text fault ≡ true
+      → gang moment ads settings jobs outcome ≡ Refused (AdText fault)
   gang-faulty (Ok x) fault fits told = absurd (no_fault fault told fits)
   gang-faulty (Err wrong) fault (inl same) told = ap (λ (f : ParseFault). Refused (AdText f)) (sym same)
   gang-faulty (Err wrong) fault (inr none) told = absurd (no_fault fault told none)
@@ -38,15 +39,18 @@ module _ (moment : ℕ) (ads : List Advert) (settings : List Setting) (jobs : Li
   abbrev narrowest_by : List Frame → Option (List Port) → ℕ
   narrowest_by frames listed = option_map_or (λ ports. looks_most ads frames ports) listed 0
 
-  gang-read : (outcome : Result Inline ParseFault) (ad : Ad) → IsAdAnswer outcome (Ok ad) → gang moment ads settings jobs outcome ≡ gang_by (ad_frames ad) (ports_of (ad_frames ad))
+  gang-read : (outcome : Result Inline ParseFault) (ad : Ad) → IsAdAnswer outcome (Ok ad)
+      → gang moment ads settings jobs outcome ≡ gang_by (ad_frames ad) (ports_of (ad_frames ad))
   gang-read (Ok x) ad fits = ap (λ (frames : List Frame). gang_by frames (ports_of frames)) (sym fits)
   gang-read (Err wrong) ad fits = absurd fits
 
-  undecided-read : (outcome : Result Inline ParseFault) (ad : Ad) → IsAdAnswer outcome (Ok ad) → undecided_for_gang moment ads settings jobs outcome ≡ undecided_by (ad_frames ad) (ports_of (ad_frames ad))
+  undecided-read : (outcome : Result Inline ParseFault) (ad : Ad) → IsAdAnswer outcome (Ok ad)
+      → undecided_for_gang moment ads settings jobs outcome ≡ undecided_by (ad_frames ad) (ports_of (ad_frames ad))
   undecided-read (Ok x) ad fits = ap (λ (frames : List Frame). undecided_by frames (ports_of frames)) (sym fits)
   undecided-read (Err wrong) ad fits = absurd fits
 
-  narrowest-read : (outcome : Result Inline ParseFault) (ad : Ad) → IsAdAnswer outcome (Ok ad) → narrowest_for_gang ads outcome ≡ narrowest_by (ad_frames ad) (ports_of (ad_frames ad))
+  narrowest-read : (outcome : Result Inline ParseFault) (ad : Ad) → IsAdAnswer outcome (Ok ad)
+      → narrowest_for_gang ads outcome ≡ narrowest_by (ad_frames ad) (ports_of (ad_frames ad))
   narrowest-read (Ok x) ad fits = ap (λ (frames : List Frame). narrowest_by frames (ports_of frames)) (sym fits)
   narrowest-read (Err wrong) ad fits = absurd fits
 
@@ -55,7 +59,8 @@ module _ (moment : ℕ) (ads : List Advert) (settings : List Setting) (jobs : Li
     gang-bad none = gang-read outcome ad fits ∙ ap (gang_by (ad_frames ad)) none
 
     module _ (ports : List Port) (listed : ports_of (ad_frames ad) ≡ Some ports) where
-      pub gang-parsed : (names : Option (List (List ℕ))) (told : Reply) → names ≡ gang_names moment ads settings jobs (ad_frames ad) ports → told ≡ line names → gang moment ads settings jobs outcome ≡ told
+      pub gang-parsed : (names : Option (List (List ℕ))) (told : Reply) → names ≡ gang_names moment ads settings jobs (ad_frames ad) ports → told ≡ line names
+          → gang moment ads settings jobs outcome ≡ told
       gang-parsed names told are is = gang-read outcome ad fits ∙ ap (gang_by (ad_frames ad)) listed ∙ sym (is ∙ ap line are)
 
       pub gang-undecided : undecided_for_gang moment ads settings jobs outcome ≡ open_docks_of (pool_in moment ads settings jobs) (ad_frames ad) ports

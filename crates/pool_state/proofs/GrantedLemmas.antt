@@ -1,5 +1,6 @@
 -- The jobs once one of them has another standing, by its number and by its name.
-use Rattle.std.proofs.Common.{◌≡◌, ℕ, zero, suc, Bool, true, false, bytes_eq, cond, List, [], ◌∷◌, map, position, slice_get, slice_set, Option, None, Some, refl, sym, ◌∙◌, ap}
+use Rattle.std.proofs.Common.{◌≡◌, ℕ, zero, suc, Bool, true, false, bytes_eq, cond, List, [], ◌∷◌, map, position, slice_get, slice_set, Option, None, Some}
+use Rattle.std.proofs.Common.{refl, sym, ◌∙◌, ap}
 use Rattle.std.specs.Option.{option_map_or}
 use Rattle.std.proofs.lemmas.Option.{none-some, same_Some}
 use Rattle.ad_store.specs.Stock.{Stock}
@@ -20,30 +21,37 @@ use Rattle.pool_state.proofs.QueueLemmas.{AtMostOne, none_behind, once_behind}
 never_next : {A : Type 0} (i : ℕ) → 0 ≡ suc i → A
 never_next i clash = absurd (cc)
 
-none_restood : (stock : Stock) (name : List ℕ) (standing : JobStanding) (jobs : List Job) → ((j : ℕ) (b : Job) → slice_get jobs j ≡ Some b → is_named name b ≡ false) → map (queued stock) jobs ≡ seen.restood name standing (map (queued stock) jobs)
+none_restood : (stock : Stock) (name : List ℕ) (standing : JobStanding) (jobs : List Job)
+    → ((j : ℕ) (b : Job) → slice_get jobs j ≡ Some b → is_named name b ≡ false) → map (queued stock) jobs ≡ seen.restood name standing (map (queued stock) jobs)
 none_restood stock name standing [] none = refl
 none_restood stock name standing (x ∷ xs) none =
     ap (λ b. cond b (record (queued stock x) { standing = standing }) (queued stock x) ∷ map (queued stock) xs) (sym (none 0 x refl))
-    ∙ ap (λ l. cond (is_named name x) (record (queued stock x) { standing = standing }) (queued stock x) ∷ l) (none_restood stock name standing xs (λ j b at. none (suc j) b at))
+    ∙ ap (λ l. cond (is_named name x) (record (queued stock x) { standing = standing }) (queued stock x) ∷ l)
+    (none_restood stock name standing xs (λ j b at. none (suc j) b at))
 
-restood_where : (stock : Stock) (name : List ℕ) (standing : Stage) (jobs : List Job) (i : ℕ) (job : Job) → slice_get jobs i ≡ Some job → is_named name job ≡ true → AtMostOne (is_named name) jobs
+restood_where : (stock : Stock) (name : List ℕ) (standing : Stage) (jobs : List Job) (i : ℕ) (job : Job) → slice_get jobs i ≡ Some job
+    → is_named name job ≡ true → AtMostOne (is_named name) jobs
     → map (queued stock) (with_standing jobs i standing) ≡ seen.restood name (named_standing stock standing) (map (queued stock) jobs)
 restood_where stock name standing [] i job at named once = absurd (none-some job at)
 restood_where stock name standing (x ∷ xs) zero job at named once =
     let same : x ≡ job = same_Some x job at in
     let here : is_named name x ≡ true = ap (is_named name) same ∙ named in
     ap (λ b. cond b (record (queued stock x) { standing = named_standing stock standing }) (queued stock x) ∷ map (queued stock) xs) (sym here)
-    ∙ ap (λ l. cond (is_named name x) (record (queued stock x) { standing = named_standing stock standing }) (queued stock x) ∷ l) (none_restood stock name (named_standing stock standing) xs (none_behind (is_named name) x xs once here))
+    ∙ ap (λ l. cond (is_named name x) (record (queued stock x) { standing = named_standing stock standing }) (queued stock x) ∷ l)
+    (none_restood stock name (named_standing stock standing) xs (none_behind (is_named name) x xs once here))
 restood_where stock name standing (x ∷ xs) (suc i) job at named once =
     ap (map (queued stock)) (standing_next (slice_get xs i) x xs i standing)
-    ∙ ap (λ b. cond b (record (queued stock x) { standing = named_standing stock standing }) (queued stock x) ∷ map (queued stock) (with_standing xs i standing)) (sym (other (is_named name x) refl))
-    ∙ ap (λ l. cond (is_named name x) (record (queued stock x) { standing = named_standing stock standing }) (queued stock x) ∷ l) (restood_where stock name standing xs i job at named (once_behind (is_named name) x xs once))
+    ∙ ap (λ b. cond b (record (queued stock x) { standing = named_standing stock standing }) (queued stock x)
+    ∷ map (queued stock) (with_standing xs i standing)) (sym (other (is_named name x) refl))
+    ∙ ap (λ l. cond (is_named name x) (record (queued stock x) { standing = named_standing stock standing }) (queued stock x) ∷ l)
+    (restood_where stock name standing xs i job at named (once_behind (is_named name) x xs once))
   where
     other : (b : Bool) → is_named name x ≡ b → b ≡ false
     other true is = never_next i (once 0 (suc i) x job refl at is named)
     other false is = refl
 
-pub restood-seen : (stock : Stock) (name : List ℕ) (standing : Stage) (jobs : List Job) (i : ℕ) (job : Job) → AreNamedApart jobs → slice_get jobs i ≡ Some job → is_named name job ≡ true
+pub restood-seen : (stock : Stock) (name : List ℕ) (standing : Stage) (jobs : List Job) (i : ℕ) (job : Job) → AreNamedApart jobs → slice_get jobs i ≡ Some job
+    → is_named name job ≡ true
     → map (queued stock) (with_standing jobs i standing) ≡ seen.restood name (named_standing stock standing) (map (queued stock) jobs)
 restood-seen stock name standing jobs i job apart at named = restood_where stock name standing jobs i job at named (named_once name jobs apart)
 
@@ -81,7 +89,8 @@ names-at (x ∷ xs) (suc i) job at = names-at xs i job at
 
 numbered-names : (name : List ℕ) (jobs later : List Job) → names later ≡ names jobs → numbered name later ≡ numbered name jobs
 numbered-names name jobs later same =
-    sym (position-map (bytes_eq name) (λ (j : Job). j.name) later) ∙ ap (position (bytes_eq name)) same ∙ position-map (bytes_eq name) (λ (j : Job). j.name) jobs
+    sym (position-map (bytes_eq name) (λ (j : Job). j.name) later) ∙ ap (position (bytes_eq name)) same
+    ∙ position-map (bytes_eq name) (λ (j : Job). j.name) jobs
 
 apart-names : (jobs later : List Job) → names later ≡ names jobs → AreNamedApart jobs → AreNamedApart later
 apart-names jobs later same apart = λ i job at.
@@ -89,8 +98,10 @@ apart-names jobs later same apart = λ i job at.
     numbered-names job.name jobs later same ∙ ap (λ n. numbered n jobs) (sym there.called) ∙ apart i there.job there.at
 
 -- a job gains what is offered to it, once others are idle
-pub granted-seen : (stock : Stock) (name : List ℕ) (standing : Stage) (jobs : List Job) (ks : List ℕ) (i : ℕ) (job : Job) → AreNamedApart jobs → slice_get jobs i ≡ Some job → is_named name job ≡ true
-    → map (queued stock) (with_standing (claims.all_idle jobs ks) i standing) ≡ seen.restood name (named_standing stock standing) (map (queued stock) (claims.all_idle jobs ks))
+pub granted-seen : (stock : Stock) (name : List ℕ) (standing : Stage) (jobs : List Job) (ks : List ℕ) (i : ℕ) (job : Job) → AreNamedApart jobs
+    → slice_get jobs i ≡ Some job → is_named name job ≡ true
+    → map (queued stock) (with_standing (claims.all_idle jobs ks) i standing)
+    ≡ seen.restood name (named_standing stock standing) (map (queued stock) (claims.all_idle jobs ks))
 granted-seen stock name standing jobs ks i job apart at named =
     restood-seen stock name standing (claims.all_idle jobs ks) i there.job (apart-names jobs (claims.all_idle jobs ks) (names-idle jobs ks) apart) there.at
     (ap (bytes_eq name) there.called ∙ named)

@@ -1,5 +1,6 @@
 -- Names that listen, and the rows of a desk that commands leave on it.
-use Rattle.std.proofs.Common.{◌≡◌, ◌≢◌, ◌↔◌, ℕ, Bool, true, false, not, ◌||◌, cond, List, [], ◌∷◌, ◌++◌, filter, Option, None, Some, is_some, IsSome, IsTrue, IfOk, OnOk, Result, Ok, Err, bytes_eq, refl, true≢false, sym, ◌∙◌, ap, subst}
+use Rattle.std.proofs.Common.{◌≡◌, ◌≢◌, ◌↔◌, ℕ, Bool, true, false, not, ◌||◌, cond, List, [], ◌∷◌, ◌++◌, filter, Option, None, Some, is_some, IsSome, IsTrue}
+use Rattle.std.proofs.Common.{IfOk, OnOk, Result, Ok, Err, bytes_eq, refl, true≢false, sym, ◌∙◌, ap, subst}
 use Rattle.std.specs.List.{AllZip}
 use Rattle.notice_desk.specs.Desk.{Row, failures_under, leaves_with, names_of, without}
 use Rattle.pool_script.specs.declared.command.Command.{Command}
@@ -23,7 +24,8 @@ pub listens-known : (name : List ℕ) (rows : List Row) → listens name (names_
 listens-known name [] = refl
 listens-known name (row ∷ rows) = by (bytes_eq row.name name) (listens-known name rows)
   where
-    by : (b : Bool) → listens name (names_of rows) ≡ is_some (failures_under name rows) → (b || listens name (names_of rows)) ≡ is_some (cond b (Some row.failures) (failures_under name rows))
+    by : (b : Bool) → listens name (names_of rows) ≡ is_some (failures_under name rows)
+        → (b || listens name (names_of rows)) ≡ is_some (cond b (Some row.failures) (failures_under name rows))
     by true rest = refl
     by false rest = rest
 
@@ -32,7 +34,9 @@ pub names-without : (name : List ℕ) (rows : List Row) → names_of (without na
 names-without name [] = refl
 names-without name (row ∷ rows) = by (bytes_eq row.name name) (names-without name rows)
   where
-    by : (b : Bool) → names_of (without name rows) ≡ others name (names_of rows) → names_of (cond (not b) (row ∷ without name rows) (without name rows)) ≡ cond (not b) (row.name ∷ others name (names_of rows)) (others name (names_of rows))
+    by : (b : Bool) → names_of (without name rows) ≡ others name (names_of rows)
+        → names_of (cond (not b) (row ∷ without name rows) (without name rows))
+        ≡ cond (not b) (row.name ∷ others name (names_of rows)) (others name (names_of rows))
     by true rest = rest
     by false rest = ap (λ (names : List (List ℕ)). row.name ∷ names) rest
 
@@ -41,7 +45,8 @@ pub others-none : (name : List ℕ) (names : List (List ℕ)) → listens name n
 others-none name [] none = refl
 others-none name (other ∷ names) none = by (bytes_eq other name) none (λ later. others-none name names later)
   where
-    by : (b : Bool) → (b || listens name names) ≡ false → (listens name names ≡ false → others name names ≡ names) → cond (not b) (other ∷ others name names) (others name names) ≡ other ∷ names
+    by : (b : Bool) → (b || listens name names) ≡ false → (listens name names ≡ false → others name names ≡ names)
+        → cond (not b) (other ∷ others name names) (others name names) ≡ other ∷ names
     by true is later = absurd (cc)
     by false is later = ap (λ (l : List (List ℕ)). other ∷ l) (later is)
 
@@ -54,16 +59,25 @@ names-after posts (x ∷ xs) (y ∷ ys) all = (λ i. all.0.name i ∷ names-afte
 
 -- ---- `unlisten`
 
-pub unlisten-known : (pool : State) (name named : List ℕ) (old new : List Row) → named ≡ name → is_some (failures_under name old) ≡ true → new ≡ without name old → ◌≡◌ {A = Heard × Reply} (unlisten (heard pool old) name) (heard pool new, reply.Unlistened named)
+pub unlisten-known : (pool : State) (name named : List ℕ) (old new : List Row) → named ≡ name → is_some (failures_under name old) ≡ true
+    → new ≡ without name old → ◌≡◌ {A = Heard × Reply} (unlisten (heard pool old) name) (heard pool new, reply.Unlistened named)
 unlisten-known pool name named old new is known left =
-    ap (λ b. let p : Heard × Reply = cond b (record { pool = pool; listeners = others name (names_of old) }, reply.Unlistened name) (heard pool old, reply.Refused why.UnknownName) in p) (listens-known name old ∙ known)
+    ap (λ b. let p : Heard × Reply =
+    cond b (record { pool = pool; listeners = others name (names_of old) }, reply.Unlistened name) (heard pool old, reply.Refused why.UnknownName) in p)
+    (listens-known name old ∙ known)
     ∙ (λ i. (record { pool = pool; listeners = (sym (ap names_of left ∙ names-without name old)) i }, reply.Unlistened ((sym is) i)))
 
-pub unlisten-unknown : (pool : State) (name : List ℕ) (old new : List Row) → is_some (failures_under name old) ≡ false → new ≡ without name old → ◌≡◌ {A = Heard × Reply} (unlisten (heard pool old) name) (heard pool new, reply.Refused why.UnknownName)
+pub unlisten-unknown : (pool : State) (name : List ℕ) (old new : List Row) → is_some (failures_under name old) ≡ false → new ≡ without name old
+    → ◌≡◌ {A = Heard × Reply} (unlisten (heard pool old) name) (heard pool new, reply.Refused why.UnknownName)
 unlisten-unknown pool name old new unknown left =
     let none : listens name (names_of old) ≡ false = listens-known name old ∙ unknown in
-    ap (λ b. let p : Heard × Reply = cond b (record { pool = pool; listeners = others name (names_of old) }, reply.Unlistened name) (heard pool old, reply.Refused why.UnknownName) in p) none
-    ∙ (λ i. (record { pool = pool; listeners = (sym (ap names_of left ∙ names-without name old ∙ others-none name (names_of old) none)) i }, reply.Refused why.UnknownName))
+    ap (λ b. let p : Heard × Reply =
+    cond b (record { pool = pool; listeners = others name (names_of old) }, reply.Unlistened name) (heard pool old, reply.Refused why.UnknownName) in p)
+    none
+    ∙ (λ i. (
+      record { pool = pool; listeners = (sym (ap names_of left ∙ names-without name old ∙ others-none name (names_of old) none)) i },
+      reply.Refused why.UnknownName,
+    ))
 
 pub unknown-is : (o : Option ℕ) → (IsTrue false ↔ IsSome o) → is_some o ≡ false
 unknown-is None iff = refl
@@ -81,14 +95,16 @@ pub notices-unlisten : (s : State) (name : List ℕ) (c : Command) → c ≡ com
 unfolding notices step
 notices-unlisten s name c is = ap (notices s) is
 
-pub rows-unlisten : (s : State) (name : List ℕ) (c : Command) (old new : List Row) (result : Result Reply OutOfMemory) → c ≡ command.Unlisten name → OnOk result (new ≡ without name old)
+pub rows-unlisten : (s : State) (name : List ℕ) (c : Command) (old new : List Row) (result : Result Reply OutOfMemory) → c ≡ command.Unlisten name
+    → OnOk result (new ≡ without name old)
     → OnOk result (AllZip (RowAfter (posts_of_all (notices s c))) (kept_by c old) new)
 unfolding kept_by
 rows-unlisten s name c old new (Ok r) is taken =
     rw (notices-unlisten s name c is, is, taken) (rows_none (without name old))
 rows-unlisten s name c old new (Err fault) is taken = tt
 
-pub told-unlisten : (s : State) (name : List ℕ) (c : Command) (old new : DeskState) (result : Result Reply OutOfMemory) → c ≡ command.Unlisten name → OnOk result (new.rows ≡ without name old.rows) → OnOk result (new.left ≡ old.left ++ filter (leaves_with name) old.rows)
+pub told-unlisten : (s : State) (name : List ℕ) (c : Command) (old new : DeskState) (result : Result Reply OutOfMemory) → c ≡ command.Unlisten name
+    → OnOk result (new.rows ≡ without name old.rows) → OnOk result (new.left ≡ old.left ++ filter (leaves_with name) old.rows)
     → OnOk result (ArePosted (posts_of_all (notices s c)) (off_by c old) new)
 unfolding off_by
 told-unlisten s name c old new (Ok r) is rows left = rw (notices-unlisten s name c is, is) (λ i. desk_of (rows i) (left i))
@@ -96,7 +112,8 @@ told-unlisten s name c old new (Err fault) is rows left = tt
 
 -- ---- the notices of a step that was answered so
 
-pub notices-by : (s t : State) (c : Command) (r : Reply) (gave lost : List Notice) → ◌≡◌ {A = State × Reply} (step s c) (t, r) → gave ≡ granted s.ads s.jobs c → lost ≡ stale s.jobs c → told r gave lost ≡ notices s c
+pub notices-by : (s t : State) (c : Command) (r : Reply) (gave lost : List Notice) → ◌≡◌ {A = State × Reply} (step s c) (t, r) → gave ≡ granted s.ads s.jobs c
+    → lost ≡ stale s.jobs c → told r gave lost ≡ notices s c
 unfolding notices
 notices-by s t c r gave lost is first second = (λ i. told ((sym is) i).1 (first i) (second i))
 
@@ -203,7 +220,8 @@ not-unlisten (command.Unlisten name) other = absurd (other name refl)
 not-unlisten (command.Bad number) other = refl
 
 -- what a pool answers is what a pool with listeners answers
-pub heard-step : (s t : State) (c : Command) (r : Reply) (old new : List Row) → is_unlisten c ≡ false → ◌≡◌ {A = State × Reply} (step s c) (t, r) → names_of new ≡ names_of old → ◌≡◌ {A = Heard × Reply} (step_heard (heard s old) c) (heard t new, r)
+pub heard-step : (s t : State) (c : Command) (r : Reply) (old new : List Row) → is_unlisten c ≡ false → ◌≡◌ {A = State × Reply} (step s c) (t, r)
+    → names_of new ≡ names_of old → ◌≡◌ {A = Heard × Reply} (step_heard (heard s old) c) (heard t new, r)
 heard-step s t c r old new other is same =
     heard-other (heard s old) c other ∙ (λ i. (record { pool = (is i).0; listeners = (sym same) i }, (is i).1))
 
@@ -213,24 +231,30 @@ pub answered-heard : (s t : State) (c : Command) (old new : List Row) (posts : L
 answered-heard s t c old new posts (Ok r) other is posted = heard-step s t c r old new other is (names-after posts old new posted)
 answered-heard s t c old new posts (Err fault) other is posted = tt
 
-pub posted-heard : (c : Command) (old new : List Row) (posts : List Post) (result : Result Reply OutOfMemory) → is_unlisten c ≡ false → OnOk result (AllZip (RowAfter posts) old new) → OnOk result (AllZip (RowAfter posts) (kept_by c old) new)
+pub posted-heard : (c : Command) (old new : List Row) (posts : List Post) (result : Result Reply OutOfMemory) → is_unlisten c ≡ false
+    → OnOk result (AllZip (RowAfter posts) old new) → OnOk result (AllZip (RowAfter posts) (kept_by c old) new)
 posted-heard c old new posts (Ok r) other posted = subst (λ (rows : List Row). AllZip (RowAfter posts) rows new) (sym (kept-other c old other)) posted
 posted-heard c old new posts (Err fault) other posted = tt
 
-pub told-heard : (c : Command) (old new : DeskState) (posts : List Post) (result : Result Reply OutOfMemory) → is_unlisten c ≡ false → OnOk result (ArePosted posts old new) → OnOk result (ArePosted posts (off_by c old) new)
+pub told-heard : (c : Command) (old new : DeskState) (posts : List Post) (result : Result Reply OutOfMemory) → is_unlisten c ≡ false
+    → OnOk result (ArePosted posts old new) → OnOk result (ArePosted posts (off_by c old) new)
 told-heard c old new posts (Ok r) other told = subst (λ (desk : DeskState). ArePosted posts desk new) (sym (off-other c old other)) told
 told-heard c old new posts (Err fault) other told = tt
 
 -- ---- rows that commands leave
 
-without-zip : (posts : List Post) (name : List ℕ) (xs ys : List Row) → AllZip (RowAfter posts) xs ys → AllZip (RowAfter posts) (without name xs) (without name ys)
+without-zip : (posts : List Post) (name : List ℕ) (xs ys : List Row) → AllZip (RowAfter posts) xs ys
+    → AllZip (RowAfter posts) (without name xs) (without name ys)
 without-zip posts name [] [] all = tt
 without-zip posts name [] (y ∷ ys) all = absurd all
 without-zip posts name (x ∷ xs) [] all = absurd all
 without-zip posts name (x ∷ xs) (y ∷ ys) all =
-    subst (λ (b : Bool). AllZip (RowAfter posts) (cond (not (bytes_eq x.name name)) (x ∷ without name xs) (without name xs)) (cond (not b) (y ∷ without name ys) (without name ys))) (ap (λ n. bytes_eq n name) (sym all.0.name)) (by (bytes_eq x.name name) (without-zip posts name xs ys all.1))
+    subst (λ (b : Bool). AllZip (RowAfter posts) (cond (not (bytes_eq x.name name)) (x ∷ without name xs) (without name xs))
+    (cond (not b) (y ∷ without name ys) (without name ys))) (ap (λ n. bytes_eq n name) (sym all.0.name))
+    (by (bytes_eq x.name name) (without-zip posts name xs ys all.1))
   where
-    by : (b : Bool) → AllZip (RowAfter posts) (without name xs) (without name ys) → AllZip (RowAfter posts) (cond (not b) (x ∷ without name xs) (without name xs)) (cond (not b) (y ∷ without name ys) (without name ys))
+    by : (b : Bool) → AllZip (RowAfter posts) (without name xs) (without name ys)
+        → AllZip (RowAfter posts) (cond (not b) (x ∷ without name xs) (without name xs)) (cond (not b) (y ∷ without name ys) (without name ys))
     by true rest = rest
     by false rest = (all.0, rest)
 
@@ -239,7 +263,9 @@ unfolding kept_by
 kept_by-zip posts c xs ys all = by c refl
   where
     same : is_unlisten c ≡ false → AllZip (RowAfter posts) (kept_by c xs) (kept_by c ys)
-    same other = subst (λ (rows : List Row). AllZip (RowAfter posts) (kept_by c xs) rows) (sym (kept-other c ys other)) (subst (λ (rows : List Row). AllZip (RowAfter posts) rows ys) (sym (kept-other c xs other)) all)
+    same other =
+        subst (λ (rows : List Row). AllZip (RowAfter posts) (kept_by c xs) rows) (sym (kept-other c ys other))
+        (subst (λ (rows : List Row). AllZip (RowAfter posts) rows ys) (sym (kept-other c xs other)) all)
 
     taken : (name : List ℕ) → c ≡ command.Unlisten name → AllZip (RowAfter posts) (kept_by c xs) (kept_by c ys)
     taken name is = subst (λ (d : Command). AllZip (RowAfter posts) (kept_by d xs) (kept_by d ys)) (sym is) (without-zip posts name xs ys all)
@@ -268,7 +294,8 @@ kept_by-zip posts c xs ys all = by c refl
     by command.Classes is = same (ap is_unlisten is)
     by (command.Bad number) is = same (ap is_unlisten is)
 
-pub kept-zip : (posts : List Post) (commands : List Command) (xs ys : List Row) → AllZip (RowAfter posts) xs ys → AllZip (RowAfter posts) (kept commands xs) (kept commands ys)
+pub kept-zip : (posts : List Post) (commands : List Command) (xs ys : List Row) → AllZip (RowAfter posts) xs ys
+    → AllZip (RowAfter posts) (kept commands xs) (kept commands ys)
 kept-zip posts [] xs ys all = all
 kept-zip posts (c ∷ commands) xs ys all = kept-zip posts commands (kept_by c xs) (kept_by c ys) (kept_by-zip posts c xs ys all)
 

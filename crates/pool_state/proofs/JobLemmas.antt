@@ -1,5 +1,6 @@
 -- The jobs of a state behind the changes of a table.
-use Rattle.std.proofs.Common.{◌≡◌, ℕ, suc, All, Bool, true, false, not, ◌||◌, cond, eqb, List, [], ◌∷◌, filter, find, length, map, position, slice_get, Option, None, Some, option_map, is_some, Result, Ok, Err, OnErr, OnOk, bytes_eq, refl, sym, ◌∙◌, ap, subst}
+use Rattle.std.proofs.Common.{◌≡◌, ℕ, suc, All, Bool, true, false, not, ◌||◌, cond, eqb, List, [], ◌∷◌, filter, find, length, map, position, slice_get, Option}
+use Rattle.std.proofs.Common.{None, Some, option_map, is_some, Result, Ok, Err, OnErr, OnOk, bytes_eq, refl, sym, ◌∙◌, ap, subst}
 use Rattle.std.specs.List.{list_all, list_any}
 use Rattle.std.specs.Option.{option_and_then, option_map_or}
 use Rattle.std.specs.Result.{is_ok}
@@ -12,18 +13,21 @@ use Rattle.ad_store.proofs.HeldLemmas.{both, neither}
 use Rattle.claim_table.specs.declared.job.Job.{Job}
 use Rattle.claim_table.specs.declared.job.Stage.{Stage}
 use Rattle.claim_table.specs.Answers.{without_at}
-use Rattle.claim_table.specs.Jobs.{AreNamedApart, claim_of, claimed_by as claimer, is_named, job_named, lists, numbered, offer_of, offered_to as offeree, slots_of}
+use Rattle.claim_table.specs.Jobs.{AreNamedApart, claim_of, claimed_by as claimer, is_named, job_named, lists, numbered, offer_of, offered_to as offeree}
+use Rattle.claim_table.specs.Jobs.{slots_of}
 use Rattle.claim_table.proofs.ListLemmas.{All-remove}
 use Rattle.pool_state.specs.Pool.{name_in, named_standing, queued}
 use Rattle.pool_state.specs.Queue.{claim_names, claimed_by, has_job, is_job, is_listed, names_of, offer_names, offered_to, without_job, without_resources}
 use Rattle.pool_state.specs.State.{JobStanding, QueuedJob, idle}
 use Rattle.pool_state.specs.Stored.{are_stored, is_stored}
 use Rattle.pool_state.proofs.NameLemmas.{AreBeside, beside-is, beside-put, beside-without, listed-named, lists-put, lists-without, named_beside}
-use Rattle.pool_state.proofs.QueueLemmas.{AtMostOne, RequestIs, all_kept, all_more, any-map, filter-map, freed, idle_job, names-mapped, once_behind, none_behind, position-cons, queue-same}
+use Rattle.pool_state.proofs.QueueLemmas.{AtMostOne, RequestIs, all_kept, all_more, any-map, filter-map, freed, idle_job, names-mapped, once_behind}
+use Rattle.pool_state.proofs.QueueLemmas.{none_behind, position-cons, queue-same}
 
 -- ---- an ad that is put
 
-module _ (put : Put) (advert : Advert) (old new : Stock) (long : length old.ads ≡ length old.slots) (ads : new.ads ≡ placed advert old.ads) (slots : new.slots ≡ slots_put put old.slots) (added : is_added put ≡ not (has advert.name old.ads)) where
+module _ (put : Put) (advert : Advert) (old new : Stock) (long : length old.ads ≡ length old.slots) (ads : new.ads ≡ placed advert old.ads)
+    (slots : new.slots ≡ slots_put put old.slots) (added : is_added put ≡ not (has advert.name old.ads)) where
   pub names-put : (slot : ℕ) → lists old.slots slot ≡ true → name_in new slot ≡ name_in old slot
   names-put slot listed =
       beside-is new.ads new.slots slot
@@ -38,11 +42,15 @@ module _ (put : Put) (advert : Advert) (old new : Stock) (long : length old.ads 
   pub stored-put : (jobs : List Job) → are_stored old.slots jobs ≡ true → are_stored new.slots jobs ≡ true
   stored-put jobs stored =
       all_more (is_stored old.slots) (is_stored new.slots) jobs
-      (λ job held. all_more (lists old.slots) (lists new.slots) (slots_of job.standing) (λ slot listed. ap (λ l. lists l slot) slots ∙ lists-put put old.slots slot listed) held) stored
+      (λ job held. all_more (lists old.slots) (lists new.slots) (slots_of job.standing)
+      (λ slot listed. ap (λ l. lists l slot) slots ∙ lists-put put old.slots slot listed) held) stored
 
 -- ---- a resource that leaves
 
-module _ (name : List ℕ) (old new : Stock) (beside : AreBeside old.ads old.slots) (slot place : ℕ) (advert : Advert) (at : slice_get old.ads place ≡ Some advert) (slot_at : slice_get old.slots place ≡ Some slot) (called : advert.name ≡ name) (found : slot_beside (is_advert name) old.ads old.slots ≡ Some slot) (ads : new.ads ≡ without name old.ads) (slots : new.slots ≡ slots_without name old.ads old.slots) where
+module _ (name : List ℕ) (old new : Stock) (beside : AreBeside old.ads old.slots) (slot place : ℕ) (advert : Advert)
+    (at : slice_get old.ads place ≡ Some advert) (slot_at : slice_get old.slots place ≡ Some slot) (called : advert.name ≡ name)
+    (found : slot_beside (is_advert name) old.ads old.slots ≡ Some slot) (ads : new.ads ≡ without name old.ads)
+    (slots : new.slots ≡ slots_without name old.ads old.slots) where
   names-without : (other : ℕ) → eqb other slot ≡ false → name_in new other ≡ name_in old other
   names-without other apart =
       beside-is new.ads new.slots other
@@ -65,7 +73,9 @@ module _ (name : List ℕ) (old new : Stock) (beside : AreBeside old.ads old.slo
   other_standing (Stage.Matched own) apart = ap JobStanding.matched (others_named own apart)
   other_standing (Stage.Claimed own) apart = ap JobStanding.claimed (others_named own apart)
 
-  one_freed : (job : Job) → is_stored old.slots job ≡ true → queued new (freed slot job) ≡ cond (list_any (bytes_eq name) (names_of (named_standing old job.standing))) (record (queued old job) { standing = idle }) (queued old job)
+  one_freed : (job : Job) → is_stored old.slots job ≡ true
+      → queued new (freed slot job) ≡ cond (list_any (bytes_eq name) (names_of (named_standing old job.standing))) (record (queued old job)
+      { standing = idle }) (queued old job)
   one_freed job stored =
       by (lists (slots_of job.standing) slot) refl
       ∙ sym (ap (λ b. cond b (record (queued old job) { standing = idle }) (queued old job)) listed)
@@ -76,17 +86,20 @@ module _ (name : List ℕ) (old new : Stock) (beside : AreBeside old.ads old.slo
           ∙ ap (λ n. list_any (bytes_eq n) (map (name_in old) (slots_of job.standing))) (sym called)
           ∙ listed-named old.ads old.slots beside place advert slot at slot_at (slots_of job.standing) stored
 
-      by : (b : Bool) → lists (slots_of job.standing) slot ≡ b → queued new (cond b (idle_job job) job) ≡ cond b (record (queued old job) { standing = idle }) (queued old job)
+      by : (b : Bool) → lists (slots_of job.standing) slot ≡ b
+          → queued new (cond b (idle_job job) job) ≡ cond b (record (queued old job) { standing = idle }) (queued old job)
       by true is = refl
       by false is = ap (λ standing. record (queued old job) { standing = standing }) (other_standing job.standing is)
 
   -- the jobs that have it are idle, and the others stay as they are
-  pub queue-freed : (jobs : List Job) → are_stored old.slots jobs ≡ true → map (queued new) (map (freed slot) jobs) ≡ without_resources (bytes_eq name) (map (queued old) jobs)
+  pub queue-freed : (jobs : List Job) → are_stored old.slots jobs ≡ true
+      → map (queued new) (map (freed slot) jobs) ≡ without_resources (bytes_eq name) (map (queued old) jobs)
   queue-freed [] stored = refl
   queue-freed (job ∷ jobs) stored =
       let parts = both (is_stored old.slots job) (are_stored old.slots jobs) stored in
       ap (λ j. j ∷ map (queued new) (map (freed slot) jobs)) (one_freed job parts.0)
-      ∙ ap (λ l. cond (list_any (bytes_eq name) (names_of (named_standing old job.standing))) (record (queued old job) { standing = idle }) (queued old job) ∷ l) (queue-freed jobs parts.1)
+      ∙ ap (λ l. cond (list_any (bytes_eq name) (names_of (named_standing old job.standing))) (record (queued old job) { standing = idle }) (queued old job)
+      ∷ l) (queue-freed jobs parts.1)
 
 -- ---- a job that leaves
 
@@ -109,21 +122,26 @@ none_dropped test (x ∷ xs) none =
 
 pub without_at-filter : (test : Job → Bool) (jobs : List Job) → AtMostOne test jobs → without_at (position test jobs) jobs ≡ filter (λ job. not (test job)) jobs
 without_at-filter test [] once = refl
-without_at-filter test (x ∷ xs) once = ap (λ o. without_at o (x ∷ xs)) (position-cons test x xs) ∙ by (test x) refl (without_at-filter test xs (once_behind test x xs once))
+without_at-filter test (x ∷ xs) once =
+    ap (λ o. without_at o (x ∷ xs)) (position-cons test x xs) ∙ by (test x) refl (without_at-filter test xs (once_behind test x xs once))
   where
     by : (b : Bool) → test x ≡ b → without_at (position test xs) xs ≡ filter (λ job. not (test job)) xs
-        → without_at (cond b (Some 0) (option_map suc (position test xs))) (x ∷ xs) ≡ cond (not b) (x ∷ filter (λ job. not (test job)) xs) (filter (λ job. not (test job)) xs)
+        → without_at (cond b (Some 0) (option_map suc (position test xs))) (x ∷ xs)
+        ≡ cond (not b) (x ∷ filter (λ job. not (test job)) xs) (filter (λ job. not (test job)) xs)
     by true is rest = sym (none_dropped test xs (none_behind test x xs once is))
     by false is rest = without_at-next (position test xs) x xs ∙ ap (λ l. x ∷ l) rest
 
-pub queue-without : (stock : Stock) (name : List ℕ) (jobs : List Job) → AreNamedApart jobs → map (queued stock) (without_at (numbered name jobs) jobs) ≡ without_job name (map (queued stock) jobs)
+pub queue-without : (stock : Stock) (name : List ℕ) (jobs : List Job) → AreNamedApart jobs
+    → map (queued stock) (without_at (numbered name jobs) jobs) ≡ without_job name (map (queued stock) jobs)
 queue-without stock name jobs apart =
     ap (map (queued stock)) (without_at-filter (is_named name) jobs (named_once name jobs apart))
     ∙ sym (filter-map (λ job. not (is_job name job)) (queued stock) jobs)
 
-pub stored-without : (slots : List ℕ) (name : List ℕ) (jobs : List Job) → AreNamedApart jobs → are_stored slots jobs ≡ true → are_stored slots (without_at (numbered name jobs) jobs) ≡ true
+pub stored-without : (slots : List ℕ) (name : List ℕ) (jobs : List Job) → AreNamedApart jobs → are_stored slots jobs ≡ true
+    → are_stored slots (without_at (numbered name jobs) jobs) ≡ true
 stored-without slots name jobs apart stored =
-    ap (are_stored slots) (without_at-filter (is_named name) jobs (named_once name jobs apart)) ∙ all_kept (is_stored slots) (λ job. not (is_named name job)) jobs stored
+    ap (are_stored slots) (without_at-filter (is_named name) jobs (named_once name jobs apart))
+    ∙ all_kept (is_stored slots) (λ job. not (is_named name job)) jobs stored
 
 pub kept-without : (P : Request → Type 0) (o : Option ℕ) (jobs : List Job) → All (RequestIs P) jobs → All (RequestIs P) (without_at o jobs)
 kept-without P None jobs kept = kept
@@ -132,7 +150,8 @@ kept-without P (Some i) jobs kept = All-remove (RequestIs P) jobs i kept
 -- ---- a change that may fail
 
 -- what is so of the jobs before it and after it, is so of those that are left
-pub either-way : {T E : Type 0} (P : List Job → Type 0) (r : Result T E) (jobs done later : List Job) → OnOk r (later ≡ done) → OnErr r (later ≡ jobs) → P done → P jobs → P later
+pub either-way : {T E : Type 0} (P : List Job → Type 0) (r : Result T E) (jobs done later : List Job) → OnOk r (later ≡ done) → OnErr r (later ≡ jobs) → P done
+    → P jobs → P later
 either-way P (Ok x) jobs done later ok err after before = subst P (sym ok) after
 either-way P (Err e) jobs done later ok err after before = subst P (sym err) before
 
@@ -141,7 +160,8 @@ either-way P (Err e) jobs done later ok err after before = subst P (sym err) bef
 pub has-queued : (stock : Stock) (name : List ℕ) (jobs : List Job) → has_job name (map (queued stock) jobs) ≡ list_any (is_named name) jobs
 has-queued stock name jobs = any-map (is_job name) (queued stock) jobs
 
-found_next : {A : Type 0} (o : Option ℕ) (x : A) (xs : List A) → option_and_then (λ i. slice_get (x ∷ xs) i) (option_map suc o) ≡ option_and_then (λ i. slice_get xs i) o
+found_next : {A : Type 0} (o : Option ℕ) (x : A) (xs : List A)
+    → option_and_then (λ i. slice_get (x ∷ xs) i) (option_map suc o) ≡ option_and_then (λ i. slice_get xs i) o
 found_next None x xs = refl
 found_next (Some i) x xs = refl
 
@@ -150,7 +170,8 @@ pub found-first : {A : Type 0} (test : A → Bool) (xs : List A) → option_and_
 found-first test [] = refl
 found-first test (x ∷ xs) = ap (option_and_then (λ i. slice_get (x ∷ xs) i)) (position-cons test x xs) ∙ by (test x) (found-first test xs)
   where
-    by : (b : Bool) → option_and_then (λ i. slice_get xs i) (position test xs) ≡ find test xs → option_and_then (λ i. slice_get (x ∷ xs) i) (cond b (Some 0) (option_map suc (position test xs))) ≡ cond b (Some x) (find test xs)
+    by : (b : Bool) → option_and_then (λ i. slice_get xs i) (position test xs) ≡ find test xs
+        → option_and_then (λ i. slice_get (x ∷ xs) i) (cond b (Some 0) (option_map suc (position test xs))) ≡ cond b (Some x) (find test xs)
     by true rest = refl
     by false rest = found_next (position test xs) x xs ∙ rest
 
@@ -167,14 +188,19 @@ answered : {A B E : Type 0} (f : A → Result B E) (e : E) → ((x : A) → is_o
 answered f e ok None = refl
 answered f e ok (Some x) = ok x
 
-pub removed : {B E : Type 0} (f : Job → Result B E) (e : E) → ((job : Job) → is_ok (f job) ≡ true) → (name : List ℕ) (stock : Stock) (jobs : List Job) (result : Result B E) → result ≡ option_map_or f (job_named name jobs) (Err e) → is_ok result ≡ has_job name (map (queued stock) jobs)
+pub removed : {B E : Type 0} (f : Job → Result B E) (e : E) → ((job : Job) → is_ok (f job) ≡ true)
+    → (name : List ℕ) (stock : Stock) (jobs : List Job) (result : Result B E) → result ≡ option_map_or f (job_named name jobs) (Err e)
+    → is_ok result ≡ has_job name (map (queued stock) jobs)
 removed f e ok name stock jobs result is =
-    ap is_ok is ∙ answered f e ok (job_named name jobs) ∙ ap is_some (found-first (is_named name) jobs) ∙ found-any (is_named name) jobs ∙ sym (has-queued stock name jobs)
+    ap is_ok is ∙ answered f e ok (job_named name jobs) ∙ ap is_some (found-first (is_named name) jobs) ∙ found-any (is_named name) jobs
+    ∙ sym (has-queued stock name jobs)
 
 -- ---- whose a resource is
 
 -- the name of the first job that passes, among the jobs seen by names
-pub name-found : (slots : List ℕ) (stock : Stock) (test : Job → Bool) (seen : QueuedJob → Bool) (jobs : List Job) → are_stored slots jobs ≡ true → ((job : Job) → is_stored slots job ≡ true → seen (queued stock job) ≡ test job) → option_map (λ job. job.name) (find test jobs) ≡ option_map (λ job. job.name) (find seen (map (queued stock) jobs))
+pub name-found : (slots : List ℕ) (stock : Stock) (test : Job → Bool) (seen : QueuedJob → Bool) (jobs : List Job) → are_stored slots jobs ≡ true
+    → ((job : Job) → is_stored slots job ≡ true → seen (queued stock job) ≡ test job)
+    → option_map (λ job. job.name) (find test jobs) ≡ option_map (λ job. job.name) (find seen (map (queued stock) jobs))
 name-found slots stock test seen [] stored same = refl
 name-found slots stock test seen (job ∷ jobs) stored same =
     by (test job) (name-found slots stock test seen jobs parts.1 same)
@@ -184,30 +210,38 @@ name-found slots stock test seen (job ∷ jobs) stored same =
     parts = both (is_stored slots job) (are_stored slots jobs) stored
 
     by : (b : Bool) → option_map (λ j. j.name) (find test jobs) ≡ option_map (λ j. j.name) (find seen (map (queued stock) jobs))
-        → option_map (λ (j : Job). j.name) (cond b (Some job) (find test jobs)) ≡ option_map (λ (j : QueuedJob). j.name) (cond b (Some (queued stock job)) (find seen (map (queued stock) jobs)))
+        → option_map (λ (j : Job). j.name) (cond b (Some job) (find test jobs))
+        ≡ option_map (λ (j : QueuedJob). j.name) (cond b (Some (queued stock job)) (find seen (map (queued stock) jobs)))
     by true rest = refl
     by false rest = rest
 
-module _ (stock : Stock) (beside : AreBeside stock.ads stock.slots) (place : ℕ) (advert : Advert) (slot : ℕ) (at : slice_get stock.ads place ≡ Some advert) (slot_at : slice_get stock.slots place ≡ Some slot) (jobs : List Job) (stored : are_stored stock.slots jobs ≡ true) where
+module _ (stock : Stock) (beside : AreBeside stock.ads stock.slots) (place : ℕ) (advert : Advert) (slot : ℕ) (at : slice_get stock.ads place ≡ Some advert)
+    (slot_at : slice_get stock.slots place ≡ Some slot) (jobs : List Job) (stored : are_stored stock.slots jobs ≡ true) where
   listed_in : (own : List ℕ) → list_all (lists stock.slots) own ≡ true → is_listed advert.name (map (name_in stock) own) ≡ lists own slot
   listed_in own held = listed-named stock.ads stock.slots beside place advert slot at slot_at own held
 
-  pub offer_seen : (standing : Stage) → list_all (lists stock.slots) (slots_of standing) ≡ true → is_listed advert.name (offer_names (named_standing stock standing)) ≡ lists (offer_of standing) slot
+  pub offer_seen : (standing : Stage) → list_all (lists stock.slots) (slots_of standing) ≡ true
+      → is_listed advert.name (offer_names (named_standing stock standing)) ≡ lists (offer_of standing) slot
   offer_seen Stage.Idle held = refl
   offer_seen (Stage.Matched own) held = listed_in own held
   offer_seen (Stage.Claimed own) held = refl
 
-  pub claim_seen : (standing : Stage) → list_all (lists stock.slots) (slots_of standing) ≡ true → is_listed advert.name (claim_names (named_standing stock standing)) ≡ lists (claim_of standing) slot
+  pub claim_seen : (standing : Stage) → list_all (lists stock.slots) (slots_of standing) ≡ true
+      → is_listed advert.name (claim_names (named_standing stock standing)) ≡ lists (claim_of standing) slot
   claim_seen Stage.Idle held = refl
   claim_seen (Stage.Matched own) held = refl
   claim_seen (Stage.Claimed own) held = listed_in own held
 
-  pub offered-seen : option_map (λ job. job.name) (option_and_then (λ i. slice_get jobs i) (offeree slot jobs)) ≡ option_map (λ job. job.name) (offered_to advert.name (map (queued stock) jobs))
+  pub offered-seen : option_map (λ job. job.name) (option_and_then (λ i. slice_get jobs i) (offeree slot jobs))
+      ≡ option_map (λ job. job.name) (offered_to advert.name (map (queued stock) jobs))
   offered-seen =
       ap (option_map (λ (j : Job). j.name)) (found-first (λ job. lists (offer_of job.standing) slot) jobs)
-      ∙ name-found stock.slots stock (λ job. lists (offer_of job.standing) slot) (λ job. is_listed advert.name (offer_names job.standing)) jobs stored (λ job held. offer_seen job.standing held)
+      ∙ name-found stock.slots stock (λ job. lists (offer_of job.standing) slot) (λ job. is_listed advert.name (offer_names job.standing)) jobs stored
+      (λ job held. offer_seen job.standing held)
 
-  pub claimed-seen : option_map (λ job. job.name) (option_and_then (λ i. slice_get jobs i) (claimer slot jobs)) ≡ option_map (λ job. job.name) (claimed_by advert.name (map (queued stock) jobs))
+  pub claimed-seen : option_map (λ job. job.name) (option_and_then (λ i. slice_get jobs i) (claimer slot jobs))
+      ≡ option_map (λ job. job.name) (claimed_by advert.name (map (queued stock) jobs))
   claimed-seen =
       ap (option_map (λ (j : Job). j.name)) (found-first (λ job. lists (claim_of job.standing) slot) jobs)
-      ∙ name-found stock.slots stock (λ job. lists (claim_of job.standing) slot) (λ job. is_listed advert.name (claim_names job.standing)) jobs stored (λ job held. claim_seen job.standing held)
+      ∙ name-found stock.slots stock (λ job. lists (claim_of job.standing) slot) (λ job. is_listed advert.name (claim_names job.standing)) jobs stored
+      (λ job held. claim_seen job.standing held)

@@ -1,5 +1,6 @@
 -- Who loses resources to a claim: the jobs that are made idle, by numbers and by names.
-use Rattle.std.proofs.Common.{◌≡◌, ℕ, zero, suc, Bool, true, false, ◌||◌, cond, eqb, List, [], ◌∷◌, ◌++◌, fold, map, slice_get, slice_set, Option, None, Some, option_map, bytes_eq, refl, sym, ◌∙◌, ap, arith}
+use Rattle.std.proofs.Common.{◌≡◌, ℕ, zero, suc, Bool, true, false, ◌||◌, cond, eqb, List, [], ◌∷◌, ◌++◌, fold, map, slice_get, slice_set, Option, None, Some}
+use Rattle.std.proofs.Common.{option_map, bytes_eq, refl, sym, ◌∙◌, ap, arith}
 use Rattle.std.specs.Prelude.{flat_map}
 use Rattle.std.specs.List.{list_all, list_any}
 use Rattle.std.specs.Option.{option_and_then, option_map_or, option_to_list}
@@ -37,7 +38,8 @@ idle-nth i [] = refl
 idle-nth zero (x ∷ xs) = refl
 idle-nth (suc i) (x ∷ xs) = by (slice_get xs i) ∙ ap (λ l. x ∷ l) (idle-nth i xs)
   where
-    by : (o : Option Job) → option_map_or (λ job. slice_set (x ∷ xs) (suc i) (idle_job job)) o (x ∷ xs) ≡ x ∷ option_map_or (λ job. slice_set xs i (idle_job job)) o xs
+    by : (o : Option Job)
+        → option_map_or (λ job. slice_set (x ∷ xs) (suc i) (idle_job job)) o (x ∷ xs) ≡ x ∷ option_map_or (λ job. slice_set xs i (idle_job job)) o xs
     by None = refl
     by (Some job) = refl
 
@@ -70,10 +72,13 @@ idle-already : (i : ℕ) (ks : List ℕ) (jobs : List Job) → lists ks i ≡ tr
 idle-already i [] jobs listed = absurd (cc)
 idle-already i (k ∷ ks) jobs listed = by (eqb k i) refl listed (λ later. idle-already i ks (idle_at (Some k) jobs) later)
   where
-    by : (b : Bool) → eqb k i ≡ b → (b || lists ks i) ≡ true → (lists ks i ≡ true → claims.all_idle (idle_at (Some k) jobs) ks ≡ idle_at (Some i) (claims.all_idle (idle_at (Some k) jobs) ks)) → claims.all_idle (idle_at (Some k) jobs) ks ≡ idle_at (Some i) (claims.all_idle (idle_at (Some k) jobs) ks)
+    by : (b : Bool) → eqb k i ≡ b → (b || lists ks i) ≡ true
+        → (lists ks i ≡ true → claims.all_idle (idle_at (Some k) jobs) ks ≡ idle_at (Some i) (claims.all_idle (idle_at (Some k) jobs) ks))
+        → claims.all_idle (idle_at (Some k) jobs) ks ≡ idle_at (Some i) (claims.all_idle (idle_at (Some k) jobs) ks)
     by true is l rest =
         let same : k ≡ i = grind (arith, nat_tests) in
-        sym (idle-among i ks (idle_at (Some k) jobs) ∙ ap (λ js. claims.all_idle js ks) (ap (λ n. idle_at (Some i) (idle_at (Some n) jobs)) same ∙ idle-twice i jobs ∙ ap (λ n. idle_at (Some n) jobs) (sym same)))
+        sym (idle-among i ks (idle_at (Some k) jobs) ∙ ap (λ js. claims.all_idle js ks) (ap (λ n. idle_at (Some i) (idle_at (Some n) jobs)) same
+        ∙ idle-twice i jobs ∙ ap (λ n. idle_at (Some n) jobs) (sym same)))
     by false is l rest = rest l
 
 idle-last : (i : ℕ) (ks : List ℕ) (jobs : List Job) → claims.all_idle jobs (ks ++ i ∷ []) ≡ idle_at (Some i) (claims.all_idle jobs ks)
@@ -120,14 +125,21 @@ map-alike f g jobs same = map-where (λ job. true) f g jobs (every jobs) (λ job
 module _ (jobs : List Job) (exclusive : AreExclusive claim_of jobs) where
   -- each of the first so many is idle
   idle-gathered : (slots ks : List ℕ) (so_far : Job → Bool) → claims.all_idle jobs ks ≡ map (λ job. idle_if (so_far job) job) jobs
-      → claims.all_idle jobs (fold (λ numbers slot. claims.once numbers (claimer slot jobs)) ks slots) ≡ map (λ job. idle_if (so_far job || claims_one slots job) job) jobs
-  idle-gathered [] ks so_far is = is ∙ map-alike (λ job. idle_if (so_far job) job) (λ job. idle_if (so_far job || false) job) jobs (λ job. ap (λ b. idle_if b job) (sym (or-nothing (so_far job))))
+      → claims.all_idle jobs (fold (λ numbers slot. claims.once numbers (claimer slot jobs)) ks slots)
+      ≡ map (λ job. idle_if (so_far job || claims_one slots job) job) jobs
+  idle-gathered [] ks so_far is =
+      is ∙ map-alike (λ job. idle_if (so_far job) job) (λ job. idle_if (so_far job || false) job) jobs
+      (λ job. ap (λ b. idle_if b job) (sym (or-nothing (so_far job))))
   idle-gathered (slot ∷ slots) ks so_far is =
       idle-gathered slots (claims.once ks (claimer slot jobs)) (λ job. so_far job || lists (claim_of job.standing) slot)
       (idle-once jobs ks (claimer slot jobs) ∙ ap (idle_at (claimer slot jobs)) is
-      ∙ idle_where (λ job. lists (claim_of job.standing) slot) (λ job. idle_if (so_far job) job) jobs (λ i j a b at_i at_j first second. exclusive slot i j a b at_i at_j first second)
-      ∙ map-alike (λ job. cond (lists (claim_of job.standing) slot) (idle_job (idle_if (so_far job) job)) (idle_if (so_far job) job)) (λ job. idle_if (so_far job || lists (claim_of job.standing) slot) job) jobs (λ job. idle-either (so_far job) (lists (claim_of job.standing) slot) job))
-      ∙ map-alike (λ job. idle_if ((so_far job || lists (claim_of job.standing) slot) || claims_one slots job) job) (λ job. idle_if (so_far job || claims_one (slot ∷ slots) job) job) jobs
+      ∙ idle_where (λ job. lists (claim_of job.standing) slot) (λ job. idle_if (so_far job) job) jobs
+      (λ i j a b at_i at_j first second. exclusive slot i j a b at_i at_j first second)
+      ∙ map-alike (λ job. cond (lists (claim_of job.standing) slot) (idle_job (idle_if (so_far job) job)) (idle_if (so_far job) job))
+      (λ job. idle_if (so_far job || lists (claim_of job.standing) slot) job) jobs
+      (λ job. idle-either (so_far job) (lists (claim_of job.standing) slot) job))
+      ∙ map-alike (λ job. idle_if ((so_far job || lists (claim_of job.standing) slot) || claims_one slots job) job)
+      (λ job. idle_if (so_far job || claims_one (slot ∷ slots) job) job) jobs
       (λ job. ap (λ b. idle_if b job) (or-again (so_far job) (lists (claim_of job.standing) slot) (claims_one slots job)))
 
   pub idle-each : (slots : List ℕ) → claims.all_idle jobs (claims.losers jobs slots) ≡ map (λ job. idle_if (claims_one slots job) job) jobs
@@ -180,19 +192,24 @@ module _ (stock : Stock) (beside : AreBeside stock.ads stock.slots) (slots : Lis
       there : Named stock.ads stock.slots c (named_beside stock.ads stock.slots c)
       there = name_there stock.ads stock.slots c beside.long there_is
 
-  holds-slots : (own : List ℕ) → list_all (lists stock.slots) own ≡ true → list_any (λ name. is_listed name (map (name_in stock) slots)) (map (name_in stock) own) ≡ list_any (λ slot. lists own slot) slots
+  holds-slots : (own : List ℕ) → list_all (lists stock.slots) own ≡ true
+      → list_any (λ name. is_listed name (map (name_in stock) slots)) (map (name_in stock) own) ≡ list_any (λ slot. lists own slot) slots
   holds-slots own held =
       any-mapped (λ name. is_listed name (map (name_in stock) slots)) (name_in stock) own
-      ∙ any-where (lists stock.slots) (λ c. is_listed (name_in stock c) (map (name_in stock) slots)) (λ c. list_any (λ s. eqb c s) slots) own held (λ c there. name-among c there ∙ sym (numbers-turned slots c))
+      ∙ any-where (lists stock.slots) (λ c. is_listed (name_in stock c) (map (name_in stock) slots)) (λ c. list_any (λ s. eqb c s) slots) own held
+      (λ c there. name-among c there ∙ sym (numbers-turned slots c))
       ∙ sym (any-swapped (λ s c. eqb c s) slots own)
 
   holds-seen : (standing : Stage) → list_all (lists stock.slots) (slots_of standing) ≡ true
-      → list_any (λ name. is_listed name (map (name_in stock) slots)) (claim_names (named_standing stock standing)) ≡ list_any (λ slot. lists (claim_of standing) slot) slots
+      → list_any (λ name. is_listed name (map (name_in stock) slots)) (claim_names (named_standing stock standing))
+      ≡ list_any (λ slot. lists (claim_of standing) slot) slots
   holds-seen Stage.Idle held = sym (any-none slots)
   holds-seen (Stage.Matched own) held = sym (any-none slots)
   holds-seen (Stage.Claimed own) held = holds-slots own held
 
-  one-idle : (job : Job) → is_stored stock.slots job ≡ true → queued stock (idle_if (claims_one slots job) job) ≡ cond (seen.holds_one (map (name_in stock) slots) (queued stock job)) (record (queued stock job) { standing = idle }) (queued stock job)
+  one-idle : (job : Job) → is_stored stock.slots job ≡ true
+      → queued stock (idle_if (claims_one slots job) job)
+      ≡ cond (seen.holds_one (map (name_in stock) slots) (queued stock job)) (record (queued stock job) { standing = idle }) (queued stock job)
   one-idle job held =
       by (claims_one slots job)
       ∙ sym (ap (λ b. cond b (record (queued stock job) { standing = idle }) (queued stock job)) (holds-seen job.standing held))
@@ -207,7 +224,9 @@ module _ (stock : Stock) (beside : AreBeside stock.ads stock.slots) (slots : Lis
   idle-seen jobs exclusive stored =
       ap (map (queued stock)) (idle-each jobs exclusive slots)
       ∙ map-map (queued stock) (λ job. idle_if (claims_one slots job) job) jobs
-      ∙ map-where (is_stored stock.slots) (λ job. queued stock (idle_if (claims_one slots job) job)) (λ job. cond (seen.holds_one (map (name_in stock) slots) (queued stock job)) (record (queued stock job) { standing = idle }) (queued stock job)) jobs stored one-idle
+      ∙ map-where (is_stored stock.slots) (λ job. queued stock (idle_if (claims_one slots job) job))
+      (λ job. cond (seen.holds_one (map (name_in stock) slots) (queued stock job)) (record (queued stock job) { standing = idle }) (queued stock job)) jobs
+      stored one-idle
       ∙ sym (map-map (λ (job : QueuedJob). cond (seen.holds_one (map (name_in stock) slots) job) (record job { standing = idle }) job) (queued stock) jobs)
 
 -- ---- the losers, told by their names
@@ -233,7 +252,8 @@ told-freed jobs (i ∷ is) =
 
 told-last : (jobs : List Job) (i : ℕ) (is : List ℕ) → told jobs (is ++ i ∷ []) ≡ told jobs is ++ name_of_one i jobs
 told-last jobs i [] = append-nil (name_of_one i jobs)
-told-last jobs i (k ∷ is) = ap (λ l. name_of_one k jobs ++ l) (told-last jobs i is) ∙ sym (append-again (name_of_one k jobs) (told jobs is) (name_of_one i jobs))
+told-last jobs i (k ∷ is) =
+    ap (λ l. name_of_one k jobs ++ l) (told-last jobs i is) ∙ sym (append-again (name_of_one k jobs) (told jobs is) (name_of_one i jobs))
   where
     append-again : (xs ys zs : List (List ℕ)) → (xs ++ ys) ++ zs ≡ xs ++ (ys ++ zs)
     append-again [] ys zs = refl
@@ -287,8 +307,10 @@ module _ (jobs : List Job) (apart : AreNamedApart jobs) (i : ℕ) (job : Job) (a
       by true = refl
       by false = told-last jobs i is ∙ ap (λ o. told jobs is ++ option_to_list (option_map (λ (j : Job). j.name) o)) at
 
-module _ (stock : Stock) (beside : AreBeside stock.ads stock.slots) (jobs : List Job) (apart : AreNamedApart jobs) (stored : are_stored stock.slots jobs ≡ true) where
-  found-told : (is : List ℕ) (o : Option ℕ) → told jobs (claims.once is o) ≡ seen.once (told jobs is) (option_map (queued stock) (option_and_then (λ i. slice_get jobs i) o))
+module _ (stock : Stock) (beside : AreBeside stock.ads stock.slots) (jobs : List Job) (apart : AreNamedApart jobs)
+    (stored : are_stored stock.slots jobs ≡ true) where
+  found-told : (is : List ℕ) (o : Option ℕ)
+      → told jobs (claims.once is o) ≡ seen.once (told jobs is) (option_map (queued stock) (option_and_then (λ i. slice_get jobs i) o))
   found-told is None = refl
   found-told is (Some i) = by (slice_get jobs i) refl
     where
@@ -301,7 +323,8 @@ module _ (stock : Stock) (beside : AreBeside stock.ads stock.slots) (jobs : List
       by (Some job) at = once-told jobs apart i job at is
 
   -- who has claimed the resource of a name
-  claimed-named : (slot : ℕ) → lists stock.slots slot ≡ true → claimed_by (name_in stock slot) (map (queued stock) jobs) ≡ option_map (queued stock) (option_and_then (λ i. slice_get jobs i) (claimer slot jobs))
+  claimed-named : (slot : ℕ) → lists stock.slots slot ≡ true
+      → claimed_by (name_in stock slot) (map (queued stock) jobs) ≡ option_map (queued stock) (option_and_then (λ i. slice_get jobs i) (claimer slot jobs))
   claimed-named slot listed =
       ap (λ name. claimed_by name (map (queued stock) jobs)) (beside-is stock.ads stock.slots slot ∙ sym there.called)
       ∙ claimed-found stock beside there.place there.advert slot there.at there.slot_at jobs stored
@@ -311,7 +334,8 @@ module _ (stock : Stock) (beside : AreBeside stock.ads stock.slots) (jobs : List
       there = name_there stock.ads stock.slots slot beside.long listed
 
   losers-gathered : (slots is : List ℕ) → list_all (lists stock.slots) slots ≡ true
-      → told jobs (fold (λ numbers slot. claims.once numbers (claimer slot jobs)) is slots) ≡ fold (λ sofar name. seen.once sofar (claimed_by name (map (queued stock) jobs))) (told jobs is) (map (name_in stock) slots)
+      → told jobs (fold (λ numbers slot. claims.once numbers (claimer slot jobs)) is slots)
+      ≡ fold (λ sofar name. seen.once sofar (claimed_by name (map (queued stock) jobs))) (told jobs is) (map (name_in stock) slots)
   losers-gathered [] is listed = refl
   losers-gathered (slot ∷ slots) is listed =
       let parts = both (lists stock.slots slot) (list_all (lists stock.slots) slots) listed in
@@ -319,5 +343,6 @@ module _ (stock : Stock) (beside : AreBeside stock.ads stock.slots) (jobs : List
       ∙ ap (λ names. fold (λ sofar name. seen.once sofar (claimed_by name (map (queued stock) jobs))) names (map (name_in stock) slots))
       (found-told is (claimer slot jobs) ∙ ap (seen.once (told jobs is)) (sym (claimed-named slot parts.0)))
 
-  pub losers-seen : (slots : List ℕ) → list_all (lists stock.slots) slots ≡ true → map (λ (one : Freed). one.job) (claims.freed_all jobs (claims.losers jobs slots)) ≡ seen.losers (map (queued stock) jobs) (map (name_in stock) slots)
+  pub losers-seen : (slots : List ℕ) → list_all (lists stock.slots) slots ≡ true
+      → map (λ (one : Freed). one.job) (claims.freed_all jobs (claims.losers jobs slots)) ≡ seen.losers (map (queued stock) jobs) (map (name_in stock) slots)
   losers-seen slots listed = told-freed jobs (claims.losers jobs slots) ∙ losers-gathered slots [] listed

@@ -41,8 +41,10 @@ module _ (stock : Stock) where
 
   one-waiting : (job : Job) → IsOwned job → seen.waiting (queued stock job) ≡ market.waiting_of job
   one-waiting job owned =
-      ap (λ b. let w : Waiting = record { user = job.user; wants = max 1 (length (ports_in (ad_frames job.request.ad))); is_idle = b } in w) (idle-seen job.standing)
-      ∙ ap (λ n. let w : Waiting = record { user = job.user; wants = n; is_idle = market.is_idle job.standing } in w) (sym (ap (λ (ports : List Port). max 1 (length ports)) owned))
+      ap (λ b. let w : Waiting = record { user = job.user; wants = max 1 (length (ports_in (ad_frames job.request.ad))); is_idle = b } in w)
+      (idle-seen job.standing)
+      ∙ ap (λ n. let w : Waiting = record { user = job.user; wants = n; is_idle = market.is_idle job.standing } in w)
+      (sym (ap (λ (ports : List Port). max 1 (length ports)) owned))
 
   waiting-seen : (jobs : List Job) → All IsOwned jobs → map seen.waiting (map (queued stock) jobs) ≡ map market.waiting_of jobs
   waiting-seen [] owned = refl
@@ -67,7 +69,8 @@ module _ (stock : Stock) where
 
 -- ---- the cycle
 
-module _ (stock : Stock) (beside : AreBeside stock.ads stock.slots) (moment : ℕ) (settings : List Setting) (jobs : List Job) (stored : are_stored stock.slots jobs ≡ true) (owned : All IsOwned jobs) where
+module _ (stock : Stock) (beside : AreBeside stock.ads stock.slots) (moment : ℕ) (settings : List Setting) (jobs : List Job)
+    (stored : are_stored stock.slots jobs ≡ true) (owned : All IsOwned jobs) where
   abbrev state_of : List QueuedJob → State
   state_of js = record { moment = moment; ads = stock.ads; jobs = js; priorities = settings }
 
@@ -88,28 +91,34 @@ module _ (stock : Stock) (beside : AreBeside stock.ads stock.slots) (moment : �
     jobs = waiting-seen stock jobs owned;
     priority = λ user. refl;
     start = All-nil (IsOffered stock.slots);
-    free = λ made offered. ap (λ js. count_by (seen.is_free js) stock.ads) (offers-seen stock made jobs) ∙ free-seen stock beside moment settings (market.with_offers made jobs) (then_stored made offered) (then_owned made);
-    find = λ made i offered. ap (λ js. seen.found moment stock.ads settings js i) (offers-seen stock made jobs) ∙ find-seen stock beside moment settings (market.with_offers made jobs) (then_stored made offered) (then_owned made) i;
+    free = λ made offered. ap (λ js. count_by (seen.is_free js) stock.ads) (offers-seen stock made jobs)
+        ∙ free-seen stock beside moment settings (market.with_offers made jobs) (then_stored made offered) (then_owned made);
+    find = λ made i offered. ap (λ js. seen.found moment stock.ads settings js i) (offers-seen stock made jobs)
+        ∙ find-seen stock beside moment settings (market.with_offers made jobs) (then_stored made offered) (then_owned made) i;
     step = λ user made i own offered waiting found.
-        All-push (IsOffered stock.slots) made (offer i own) offered (found-stored moment stock settings (let long = beside.long in omega (arith, long)) (market.with_offers made jobs) i own found);
+        All-push (IsOffered stock.slots) made (offer i own) offered
+        (found-stored moment stock settings (let long = beside.long in omega (arith, long)) (market.with_offers made jobs) i own found);
   }
 
   cycle-seen : cycle_of (seen.market_in state) ≡ map (spin_mapped (name_in stock)) (cycle_of here)
   cycle-seen = cycle-renamed (name_in stock) here (seen.market_in state) (AreOffered stock.slots) renames
 
   -- the jobs behind the cycle
-  jobs-seen : seen.with_offers (offers_of (cycle_of (seen.market_in state))) (map (queued stock) jobs) ≡ map (queued stock) (market.with_offers (offers_of (cycle_of here)) jobs)
+  jobs-seen : seen.with_offers (offers_of (cycle_of (seen.market_in state))) (map (queued stock) jobs)
+      ≡ map (queued stock) (market.with_offers (offers_of (cycle_of here)) jobs)
   jobs-seen =
       ap (λ spins. seen.with_offers (offers_of spins) (map (queued stock) jobs)) cycle-seen
       ∙ ap (λ offers. seen.with_offers offers (map (queued stock) jobs)) (spins-named stock (cycle_of here))
       ∙ offers-seen stock (offers_of (cycle_of here)) jobs
 
   -- the step
-  pub negotiated : (later : List Job) (spins : List Spin) (answered : List SpinRow) → later ≡ market.with_offers (offers_of (cycle_of here)) jobs → spins ≡ map (market.spin_named jobs) (cycle_of here) → answered ≡ map (rows.spin_row stock) spins
+  pub negotiated : (later : List Job) (spins : List Spin) (answered : List SpinRow) → later ≡ market.with_offers (offers_of (cycle_of here)) jobs
+      → spins ≡ map (market.spin_named jobs) (cycle_of here) → answered ≡ map (rows.spin_row stock) spins
       → ◌≡◌ {A = State × Reply} (seen.negotiate state) (state_of (map (queued stock) later), reply.Cycle answered)
   negotiated later spins answered is named_spins named_rows =
       ap (λ js. pair js (map (seen.spin_row (map (queued stock) jobs)) (cycle_of (seen.market_in state)))) (jobs-seen ∙ ap (map (queued stock)) (sym is))
-      ∙ ap (pair (map (queued stock) later)) (ap (map (seen.spin_row (map (queued stock) jobs))) cycle-seen ∙ spin-rows stock jobs (cycle_of here) ∙ ap (map (rows.spin_row stock)) (sym named_spins) ∙ sym named_rows)
+      ∙ ap (pair (map (queued stock) later)) (ap (map (seen.spin_row (map (queued stock) jobs))) cycle-seen ∙ spin-rows stock jobs (cycle_of here)
+      ∙ ap (map (rows.spin_row stock)) (sym named_spins) ∙ sym named_rows)
     where
       pair : List QueuedJob → List SpinRow → State × Reply
       pair js rs = (state_of js, reply.Cycle rs)
@@ -117,7 +126,8 @@ module _ (stock : Stock) (beside : AreBeside stock.ads stock.slots) (moment : �
   -- ---- what it costs
 
   sum-idle : (f : QueuedJob → ℕ) (g : Job → ℕ) → ((job : Job) → IsOwned job → f (queued stock job) ≡ g job) → (js : List Job) → All IsOwned js
-      → sum_by f (filter (λ (job : QueuedJob). seen.is_idle job.standing) (map (queued stock) js)) ≡ sum_by g (filter (λ (job : Job). market.is_idle job.standing) js)
+      → sum_by f (filter (λ (job : QueuedJob). seen.is_idle job.standing) (map (queued stock) js))
+      ≡ sum_by g (filter (λ (job : Job). market.is_idle job.standing) js)
   sum-idle f g each [] own = refl
   sum-idle f g each (job ∷ js) own =
       ap (λ b. sum_by f (cond b (queued stock job ∷ behind) behind)) (idle-seen stock job.standing)
@@ -130,16 +140,20 @@ module _ (stock : Stock) (beside : AreBeside stock.ads stock.slots) (moment : �
       others = filter (λ (j : Job). market.is_idle j.standing) js
 
       by : (b : Bool) → sum_by f behind ≡ sum_by g others → sum_by f (cond b (queued stock job ∷ behind) behind) ≡ sum_by g (cond b (job ∷ others) others)
-      by true rest = let one = each job (All-head IsOwned job js own) in omega (arith, one, rest, sum_by-cons f (queued stock job) behind, sum_by-cons g job others)
+      by true rest =
+          let one = each job (All-head IsOwned job js own) in omega (arith, one, rest, sum_by-cons f (queued stock job) behind, sum_by-cons g job others)
       by false rest = rest
 
-  open-with : (request : List Frame) (ports : List Port) → budget.open_by (seen.pool_in moment stock.ads settings (map (queued stock) jobs)) request ports ≡ budget.open_by (market.pool_for moment stock settings jobs) request ports
+  open-with : (request : List Frame) (ports : List Port)
+      → budget.open_by (seen.pool_in moment stock.ads settings (map (queued stock) jobs)) request ports
+      ≡ budget.open_by (market.pool_for moment stock settings jobs) request ports
   open-with request [] = open-seen stock beside moment settings jobs stored owned request
   open-with request (port ∷ ports) = docks-seen stock beside moment settings jobs stored owned request (port ∷ ports)
 
   pub undecided-seen : seen.undecided_for_jobs state ≡ budget.over_idle (budget.open_for moment stock settings) jobs
   undecided-seen =
-      sum-idle (λ job. budget.open_by (seen.pool_in moment stock.ads settings (map (queued stock) jobs)) job.ad (ports_in job.ad)) (λ job. budget.open_for moment stock settings jobs job.request)
+      sum-idle (λ job. budget.open_by (seen.pool_in moment stock.ads settings (map (queued stock) jobs)) job.ad (ports_in job.ad))
+      (λ job. budget.open_for moment stock settings jobs job.request)
       (λ job own.
       ap (budget.open_by (seen.pool_in moment stock.ads settings (map (queued stock) jobs)) (ad_frames job.request.ad)) (sym own)
       ∙ open-with (ad_frames job.request.ad) job.request.ports) jobs owned

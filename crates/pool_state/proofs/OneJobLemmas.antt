@@ -1,5 +1,6 @@
 -- No two jobs list one resource.
-use Rattle.std.proofs.Common.{◌≡◌, ℕ, zero, suc, All, Bool, true, false, ◌||◌, List, [], ◌∷◌, map, slice_get, Option, None, Some, option_map, bytes_eq, refl, sym, ◌∙◌, ap}
+use Rattle.std.proofs.Common.{◌≡◌, ℕ, zero, suc, All, Bool, true, false, ◌||◌, List, [], ◌∷◌, map, slice_get, Option, None, Some, option_map, bytes_eq, refl}
+use Rattle.std.proofs.Common.{sym, ◌∙◌, ap}
 use Rattle.std.specs.List.{list_all}
 use Rattle.std.specs.Cmp.Lexicographic.{bytes_decides}
 use Rattle.std.proofs.lemmas.List.Elements.{All-cons, All-nil}
@@ -40,7 +41,8 @@ stored-at slots (x ∷ jobs) zero job stored at =
     ap (is_stored slots) (sym same) ∙ (both (is_stored slots x) (are_stored slots jobs) stored).0
 stored-at slots (x ∷ jobs) (suc i) job stored at = stored-at slots jobs i job (both (is_stored slots x) (are_stored slots jobs) stored).1 at
 
-behind : (stock : Stock) (jobs : List Job) (i : ℕ) (seen : QueuedJob) → are_stored stock.slots jobs ≡ true → slice_get (map (queued stock) jobs) i ≡ Some seen → Behind stock jobs i seen
+behind : (stock : Stock) (jobs : List Job) (i : ℕ) (seen : QueuedJob) → are_stored stock.slots jobs ≡ true → slice_get (map (queued stock) jobs) i ≡ Some seen
+    → Behind stock jobs i seen
 behind stock jobs i seen stored at = by (slice_get jobs i) refl (sym (slice_get-map (queued stock) jobs i) ∙ at)
   where
     by : (o : Option Job) → slice_get jobs i ≡ o → option_map (queued stock) o ≡ Some seen → Behind stock jobs i seen
@@ -48,10 +50,20 @@ behind stock jobs i seen stored at = by (slice_get jobs i) refl (sym (slice_get-
     by (Some job) found is = record { job = job; at = found; is = same_Some (queued stock job) seen is; stored = stored-at stock.slots jobs i job stored found }
 
 -- a slot's name is an ad's
-held-in : (stock : Stock) (beside : AreBeside stock.ads stock.slots) (slot : ℕ) (name : List ℕ) → lists stock.slots slot ≡ true → name ≡ name_in stock slot → Held stock name
+held-in : (stock : Stock) (beside : AreBeside stock.ads stock.slots) (slot : ℕ) (name : List ℕ) → lists stock.slots slot ≡ true → name ≡ name_in stock slot
+    → Held stock name
 held-in stock beside slot name listed is =
     let there : Named stock.ads stock.slots slot (named_beside stock.ads stock.slots slot) = name_there stock.ads stock.slots slot beside.long listed in
-    record { place = there.place; advert = there.advert; slot = slot; at = there.at; slot_at = there.slot_at; called = there.called ∙ sym (beside-is stock.ads stock.slots slot) ∙ sym is }
+    record {
+      place =
+          there.place;
+      advert =
+          there.advert;
+      slot = slot;
+      at = there.at;
+      slot_at = there.slot_at;
+      called = there.called ∙ sym (beside-is stock.ads stock.slots slot) ∙ sym is;
+    }
 
 never_listed : {A : Type 0} → false ≡ true → A
 never_listed listed = absurd (cc)
@@ -65,31 +77,42 @@ module _ (stock : Stock) (beside : AreBeside stock.ads stock.slots) where
       parts : (lists stock.slots s ≡ true) × (list_all (lists stock.slots) own ≡ true)
       parts = both (lists stock.slots s) (list_all (lists stock.slots) own) stored
 
-      by : (b : Bool) → bytes_eq name (name_in stock s) ≡ b → (b || is_listed name (map (name_in stock) own)) ≡ true → (is_listed name (map (name_in stock) own) ≡ true → Held stock name) → Held stock name
+      by : (b : Bool) → bytes_eq name (name_in stock s) ≡ b → (b || is_listed name (map (name_in stock) own)) ≡ true
+          → (is_listed name (map (name_in stock) own) ≡ true → Held stock name) → Held stock name
       by true is l later = held-in stock beside s name parts.0 ((bytes_decides name (name_in stock s)).0 is)
       by false is l later = later l
 
-  module _ (part : Stage → List ℕ) (names : JobStanding → List (List ℕ)) (named : (standing : Stage) → names (named_standing stock standing) ≡ map (name_in stock) (part standing)) (within : (standing : Stage) → list_all (lists stock.slots) (slots_of standing) ≡ true → list_all (lists stock.slots) (part standing) ≡ true) where
-    by-slots : (name : List ℕ) (job : Job) (seen : QueuedJob) → queued stock job ≡ seen → is_listed name (names seen.standing) ≡ true → is_listed name (map (name_in stock) (part job.standing)) ≡ true
+  module _ (part : Stage → List ℕ) (names : JobStanding → List (List ℕ))
+      (named : (standing : Stage) → names (named_standing stock standing) ≡ map (name_in stock) (part standing))
+      (within : (standing : Stage) → list_all (lists stock.slots) (slots_of standing) ≡ true → list_all (lists stock.slots) (part standing) ≡ true) where
+    by-slots : (name : List ℕ) (job : Job) (seen : QueuedJob) → queued stock job ≡ seen → is_listed name (names seen.standing) ≡ true
+        → is_listed name (map (name_in stock) (part job.standing)) ≡ true
     by-slots name job seen is listed = ap (is_listed name) (sym (named job.standing) ∙ ap (λ (q : QueuedJob). names q.standing) is) ∙ listed
 
-    lists-it : (name : List ℕ) (held : Held stock name) (job : Job) → is_stored stock.slots job ≡ true → is_listed name (map (name_in stock) (part job.standing)) ≡ true → lists (part job.standing) held.slot ≡ true
+    lists-it : (name : List ℕ) (held : Held stock name) (job : Job) → is_stored stock.slots job ≡ true
+        → is_listed name (map (name_in stock) (part job.standing)) ≡ true → lists (part job.standing) held.slot ≡ true
     lists-it name held job stored listed =
         sym (listed-named stock.ads stock.slots beside held.place held.advert held.slot held.at held.slot_at (part job.standing) (within job.standing stored))
         ∙ ap (λ n. is_listed n (map (name_in stock) (part job.standing))) held.called
         ∙ listed
 
-    held-by : (name : List ℕ) (jobs : List Job) (i : ℕ) (seen : QueuedJob) (x : Behind stock jobs i seen) → is_listed name (names seen.standing) ≡ true → Held stock name
+    held-by : (name : List ℕ) (jobs : List Job) (i : ℕ) (seen : QueuedJob) (x : Behind stock jobs i seen) → is_listed name (names seen.standing) ≡ true
+        → Held stock name
     held-by name jobs i seen x listed = held-of name (part x.job.standing) (within x.job.standing x.stored) (by-slots name x.job seen x.is listed)
 
-    lists-slot : (name : List ℕ) (held : Held stock name) (jobs : List Job) (i : ℕ) (seen : QueuedJob) (x : Behind stock jobs i seen) → is_listed name (names seen.standing) ≡ true → lists (part x.job.standing) held.slot ≡ true
+    lists-slot : (name : List ℕ) (held : Held stock name) (jobs : List Job) (i : ℕ) (seen : QueuedJob) (x : Behind stock jobs i seen)
+        → is_listed name (names seen.standing) ≡ true → lists (part x.job.standing) held.slot ≡ true
     lists-slot name held jobs i seen x listed = lists-it name held x.job x.stored (by-slots name x.job seen x.is listed)
 
     -- two jobs that list an ad's name are one
-    one-place : (jobs : List Job) → AreApart part jobs → (name : List ℕ) (held : Held stock name) (i j : ℕ) (a b : QueuedJob) (x : Behind stock jobs i a) (y : Behind stock jobs j b) → is_listed name (names a.standing) ≡ true → is_listed name (names b.standing) ≡ true → i ≡ j
-    one-place jobs apart name held i j a b x y in_a in_b = apart held.slot i j x.job y.job x.at y.at (lists-slot name held jobs i a x in_a) (lists-slot name held jobs j b y in_b)
+    one-place : (jobs : List Job) → AreApart part jobs
+        → (name : List ℕ) (held : Held stock name) (i j : ℕ) (a b : QueuedJob) (x : Behind stock jobs i a) (y : Behind stock jobs j b)
+        → is_listed name (names a.standing) ≡ true → is_listed name (names b.standing) ≡ true → i ≡ j
+    one-place jobs apart name held i j a b x y in_a in_b =
+        apart held.slot i j x.job y.job x.at y.at (lists-slot name held jobs i a x in_a) (lists-slot name held jobs j b y in_b)
 
-    same-place : (jobs : List Job) → AreApart part jobs → (name : List ℕ) (i j : ℕ) (a b : QueuedJob) → Behind stock jobs i a → Behind stock jobs j b → is_listed name (names a.standing) ≡ true → is_listed name (names b.standing) ≡ true → i ≡ j
+    same-place : (jobs : List Job) → AreApart part jobs → (name : List ℕ) (i j : ℕ) (a b : QueuedJob) → Behind stock jobs i a → Behind stock jobs j b
+        → is_listed name (names a.standing) ≡ true → is_listed name (names b.standing) ≡ true → i ≡ j
     same-place jobs apart name i j a b x y in_a in_b = one-place jobs apart name (held-by name jobs i a x in_a) i j a b x y in_a in_b
 
     exclusive : (jobs : List Job) → are_stored stock.slots jobs ≡ true → AreApart part jobs → AreExclusive names (map (queued stock) jobs)
@@ -134,15 +157,18 @@ module _ (stock : Stock) (beside : AreBeside stock.ads stock.slots) where
   names-held (s ∷ own) stored =
       let parts = both (lists stock.slots s) (list_all (lists stock.slots) own) stored in
       let there : Held stock (name_in stock s) = held-in stock beside s (name_in stock s) parts.0 refl in
-      All-cons IsHeld (name_in stock s) (map (name_in stock) own) (has_at (name_in stock s) stock.ads there.place there.advert there.at there.called) (names-held own parts.1)
+      All-cons IsHeld (name_in stock s) (map (name_in stock) own) (has_at (name_in stock s) stock.ads there.place there.advert there.at there.called)
+      (names-held own parts.1)
 
   standing-held : (standing : Stage) → list_all (lists stock.slots) (slots_of standing) ≡ true → All IsHeld (names_of (named_standing stock standing))
   standing-held Stage.Idle stored = All-nil IsHeld
   standing-held (Stage.Matched own) stored = names-held own stored
   standing-held (Stage.Claimed own) stored = names-held own stored
 
-  pub jobs-held : (jobs : List Job) → are_stored stock.slots jobs ≡ true → All (λ job. All (λ name. has name stock.ads ≡ true) (names_of job.standing)) (map (queued stock) jobs)
+  pub jobs-held : (jobs : List Job) → are_stored stock.slots jobs ≡ true
+      → All (λ job. All (λ name. has name stock.ads ≡ true) (names_of job.standing)) (map (queued stock) jobs)
   jobs-held [] stored = All-nil (λ (job : QueuedJob). All IsHeld (names_of job.standing))
   jobs-held (job ∷ jobs) stored =
       let parts = both (is_stored stock.slots job) (are_stored stock.slots jobs) stored in
-      All-cons (λ (q : QueuedJob). All IsHeld (names_of q.standing)) (queued stock job) (map (queued stock) jobs) (standing-held job.standing parts.0) (jobs-held jobs parts.1)
+      All-cons (λ (q : QueuedJob). All IsHeld (names_of q.standing)) (queued stock job) (map (queued stock) jobs) (standing-held job.standing parts.0)
+      (jobs-held jobs parts.1)

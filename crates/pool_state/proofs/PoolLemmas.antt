@@ -1,5 +1,6 @@
 -- The pool of a state, by the names of its resources, and that of a table of jobs, by their slots: they say the same of each place.
-use Rattle.std.proofs.Common.{◌≡◌, ℕ, zero, suc, ◌<◌, ◌≤◌, ◌+◌, ◌*◌, All, Bool, true, cond, eqb, Contains, List, [], ◌∷◌, count_by, length, map, slice_get, Option, None, Some, option_map, is_some, IfSome, refl, sym, ◌∙◌, ap, arith}
+use Rattle.std.proofs.Common.{◌≡◌, ℕ, zero, suc, ◌<◌, ◌≤◌, ◌+◌, ◌*◌, All, Bool, true, cond, eqb, Contains, List, [], ◌∷◌, count_by, length, map, slice_get}
+use Rattle.std.proofs.Common.{Option, None, Some, option_map, is_some, IfSome, refl, sym, ◌∙◌, ap, arith}
 use Rattle.std.specs.List.{position_or_len}
 use Rattle.std.specs.Option.{option_map_or}
 use Rattle.std.proofs.lemmas.List.Elements.{All-head, All-tail}
@@ -42,7 +43,8 @@ get-within [] i within = absurd (omega (arith, within))
 get-within (x ∷ xs) zero within = record { it = x; at = refl }
 get-within (x ∷ xs) (suc i) within = let rest = get-within xs i (omega (arith, within)) in record { it = rest.it; at = rest.at }
 
-count-beside : {A B : Type 0} (f : A → Bool) (g : B → Bool) (xs : List A) (ys : List B) → length xs ≡ length ys → ((i : ℕ) (a : A) (b : B) → slice_get xs i ≡ Some a → slice_get ys i ≡ Some b → f a ≡ g b) → count_by f xs ≡ count_by g ys
+count-beside : {A B : Type 0} (f : A → Bool) (g : B → Bool) (xs : List A) (ys : List B) → length xs ≡ length ys
+    → ((i : ℕ) (a : A) (b : B) → slice_get xs i ≡ Some a → slice_get ys i ≡ Some b → f a ≡ g b) → count_by f xs ≡ count_by g ys
 count-beside f g [] [] long same = refl
 count-beside f g [] (y ∷ ys) long same = absurd (omega (arith, long))
 count-beside f g (x ∷ xs) [] long same = absurd (omega (arith, long))
@@ -62,7 +64,8 @@ module _ (stock : Stock) (beside : AreBeside stock.ads stock.slots) where
   name-of place within =
       let s = get-within stock.slots place (let long = beside.long in omega (arith, within, long)) in
       let slot : slot_at stock place ≡ s.it = get_or_from_slice_get stock.slots place s.it 0 s.at in
-      let at_slot : position_or_len (λ t. eqb t s.it) stock.slots ≡ place = position-at stock.slots place s.it s.at (λ j at_j. beside.apart j place s.it at_j s.at) in
+      let at_slot : position_or_len (λ t. eqb t s.it) stock.slots ≡ place =
+      position-at stock.slots place s.it s.at (λ j at_j. beside.apart j place s.it at_j s.at) in
       sym (ap (name_in stock) slot ∙ ap (λ k. option_map_or (λ (x : Advert). x.name) (slice_get stock.ads k) []) at_slot)
 
   module _ (moment : ℕ) (settings : List Setting) (jobs : List Job) (stored : are_stored stock.slots jobs ≡ true) (owned : All IsOwned jobs) where
@@ -84,14 +87,21 @@ module _ (stock : Stock) (beside : AreBeside stock.ads stock.slots) where
         let s = get-within stock.slots i (let long = beside.long in omega (arith, within, long)) in
         let name : names_at i ≡ a.it.name = ap (λ o. option_map_or (λ (x : Advert). x.name) o []) a.at in
         let slot : slot_at stock i ≡ s.it = get_or_from_slice_get stock.slots i s.it 0 s.at in (
-          ap (λ n. is_some (offered_to n (map (queued stock) jobs))) name ∙ offered-same stock beside i a.it s.it a.at s.at jobs stored ∙ sym (ap (λ k. is_some (offeree k jobs)) slot),
-          ap (λ n. option_map (seen.held_by moment stock.ads settings n) (claimed_by n (map (queued stock) jobs))) name ∙ holder-same stock beside i a.it s.it a.at s.at jobs stored moment settings owned ∙ sym (ap (λ k. option_map (hold_of moment stock) (holder_of settings jobs k)) slot),
+          ap (λ n. is_some (offered_to n (map (queued stock) jobs))) name ∙ offered-same stock beside i a.it s.it a.at s.at jobs stored
+              ∙ sym (ap (λ k. is_some (offeree k jobs)) slot),
+          ap (λ n. option_map (seen.held_by moment stock.ads settings n) (claimed_by n (map (queued stock) jobs))) name
+              ∙ holder-same stock beside i a.it s.it a.at s.at jobs stored moment settings owned
+              ∙ sym (ap (λ k. option_map (hold_of moment stock) (holder_of settings jobs k)) slot),
         )
 
-    pub best-seen : (number : ℕ) (request : List Frame) → best (seen.pool_in moment stock.ads settings (map (queued stock) jobs)) request number ≡ best (market.pool_for moment stock settings jobs) request number
+    pub best-seen : (number : ℕ) (request : List Frame)
+        → best (seen.pool_in moment stock.ads settings (map (queued stock) jobs)) request number
+        ≡ best (market.pool_for moment stock settings jobs) request number
     best-seen number request = best-same moment stock.ads request off_named off_slots held_named held_slots number same-at
 
-    pub open-seen : (request : List Frame) → open_count (seen.pool_in moment stock.ads settings (map (queued stock) jobs)) request ≡ open_count (market.pool_for moment stock settings jobs) request
+    pub open-seen : (request : List Frame)
+        → open_count (seen.pool_in moment stock.ads settings (map (queued stock) jobs)) request
+        ≡ open_count (market.pool_for moment stock settings jobs) request
     open-seen request = open-same moment stock.ads request off_named off_slots held_named held_slots same-at
 
     pub free-seen : count_by (seen.is_free (map (queued stock) jobs)) stock.ads ≡ market.free_among stock jobs
@@ -101,13 +111,19 @@ module _ (stock : Stock) (beside : AreBeside stock.ads stock.slots) where
 
     -- ---- gangs
 
-    gang-seen : (request : List Frame) (ports : List Port) → gang (seen.pool_in moment stock.ads settings (map (queued stock) jobs)) request ports ≡ gang (market.pool_for moment stock settings jobs) request ports
+    gang-seen : (request : List Frame) (ports : List Port)
+        → gang (seen.pool_in moment stock.ads settings (map (queued stock) jobs)) request ports
+        ≡ gang (market.pool_for moment stock settings jobs) request ports
     gang-seen request ports = gang-same moment stock.ads off_named off_slots held_named held_slots same-at request ports
 
-    pub docks-seen : (request : List Frame) (ports : List Port) → docks_open (seen.pool_in moment stock.ads settings (map (queued stock) jobs)) request ports ≡ docks_open (market.pool_for moment stock settings jobs) request ports
+    pub docks-seen : (request : List Frame) (ports : List Port)
+        → docks_open (seen.pool_in moment stock.ads settings (map (queued stock) jobs)) request ports
+        ≡ docks_open (market.pool_for moment stock settings jobs) request ports
     docks-seen request ports = docks-same moment stock.ads off_named off_slots held_named held_slots same-at request ports
 
-    weighed-seen : (request : List Frame) (ports : List Port) → docks_weighed (seen.pool_in moment stock.ads settings (map (queued stock) jobs)) request ports ≡ docks_weighed (market.pool_for moment stock settings jobs) request ports
+    weighed-seen : (request : List Frame) (ports : List Port)
+        → docks_weighed (seen.pool_in moment stock.ads settings (map (queued stock) jobs)) request ports
+        ≡ docks_weighed (market.pool_for moment stock settings jobs) request ports
     weighed-seen request ports = weighed-same moment stock.ads off_named off_slots held_named held_slots same-at request ports
 
     -- a search makes no more evaluations than both numbers of docks allow
@@ -133,12 +149,14 @@ module _ (stock : Stock) (beside : AreBeside stock.ads stock.slots) where
         ap (option_map (map names_at)) (gang-seen request ports)
         ∙ by (gang (market.pool_for moment stock settings jobs) request ports) refl
       where
-        by : (o : Option (List ℕ)) → gang (market.pool_for moment stock settings jobs) request ports ≡ o → option_map (map names_at) o ≡ option_map (map (name_in stock)) (option_map (map (slot_at stock)) o)
+        by : (o : Option (List ℕ)) → gang (market.pool_for moment stock settings jobs) request ports ≡ o
+            → option_map (map names_at) o ≡ option_map (map (name_in stock)) (option_map (map (slot_at stock)) o)
         by None there = refl
         by (Some places) there = ap (λ l. Some l) (names-of places (gang-below (market.pool_for moment stock settings jobs) request ports places there))
 
     -- they are in the store
-    pub gang-stored : (request : List Frame) (ports : List Port) (found : Option (List ℕ)) → found ≡ option_map (map (slot_at stock)) (gang (market.pool_for moment stock settings jobs) request ports) → IfSome found (All (Contains stock.slots))
+    pub gang-stored : (request : List Frame) (ports : List Port) (found : Option (List ℕ))
+        → found ≡ option_map (map (slot_at stock)) (gang (market.pool_for moment stock settings jobs) request ports) → IfSome found (All (Contains stock.slots))
     gang-stored request ports found is =
         gang-all moment stock settings jobs request ports (All (Contains stock.slots))
         (λ places there. slots-stored moment stock settings jobs request ports places there (let long = beside.long in omega (arith, long))) found is

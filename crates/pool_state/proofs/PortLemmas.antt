@@ -22,4 +22,5 @@ own-ports frames ports own = by ports (ports_of frames) refl own
 
 pub all-own : (jobs : List Job) → All IsOwned jobs → All (λ job. AreOwn (ad_frames job.request.ad) job.request.ports) jobs
 all-own jobs owned =
-    All-weaker IsOwned (λ (job : Job). AreOwn (ad_frames job.request.ad) job.request.ports) (λ job own. own-ports (ad_frames job.request.ad) job.request.ports own) jobs owned
+    All-weaker IsOwned (λ (job : Job). AreOwn (ad_frames job.request.ad) job.request.ports)
+    (λ job own. own-ports (ad_frames job.request.ad) job.request.ports own) jobs owned

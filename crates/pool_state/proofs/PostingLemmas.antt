@@ -1,5 +1,7 @@
 -- Posts one after the other.
-use Rattle.std.proofs.Common.{◌≡◌, ◌≢◌, ◌↔◌, ◌≤◌, ◌<◌, ℕ, suc, zero, ◌+◌, Bool, true, false, cond, List, [], ◌∷◌, ◌++◌, filter, length, map, take, Option, None, Some, IsNone, OnOk, Result, Ok, Err, option_map, bytes_eq, refl, sym, ◌∙◌, ap, subst, inl, inr, arith, add-one, append_assoc, true≢false, slice_get}
+use Rattle.std.proofs.Common.{◌≡◌, ◌≢◌, ◌↔◌, ◌≤◌, ◌<◌, ℕ, suc, zero, ◌+◌, Bool, true, false, cond, List, [], ◌∷◌, ◌++◌, filter, length, map, take, Option, None}
+use Rattle.std.proofs.Common.{Some, IsNone, OnOk, Result, Ok, Err, option_map, bytes_eq, refl, sym, ◌∙◌, ap, subst, inl, inr, arith, add-one, append_assoc}
+use Rattle.std.proofs.Common.{true≢false, slice_get}
 use Rattle.std.specs.List.{AllZip, flat_map}
 use Rattle.std.proofs.lemmas.Bool.{cases_Bool, false_from_ne_true}
 use Rattle.std.proofs.lemmas.Grind.{flat_map-append}
@@ -12,11 +14,13 @@ use Rattle.pool_io.specs.Memory.{next_count}
 use Rattle.notice_desk.specs.Desk.{Held, HeldPosts, Posts, Row, box_under, failures_after, is_marked, retired, unmarked}
 use Rattle.notice_desk.specs.declared.notices.PostEnd.{PostEnd}
 use Rattle.notice_desk.specs.declared.notices.PostEnd.TheVariants.{NoBox, Delivered, Failed}
-use Rattle.pool_state.specs.Posting.{ArePosted, DeskState, HeldAfter, IsPosted, Kept, Post, RowAfter, calls_after, desk_of, lines_to, post_to, swept, with_feeds}
+use Rattle.pool_state.specs.Posting.{ArePosted, DeskState, HeldAfter, IsPosted, Kept, Post, RowAfter, calls_after, desk_of, lines_to, post_to, swept}
+use Rattle.pool_state.specs.Posting.{with_feeds}
 
 -- ---- lists of rows
 
-pub zip_both : {A : Type 0} (R S T : A → A → Type 0) → ((x y z : A) → R x y → S y z → T x z) → (xs ys zs : List A) → AllZip R xs ys → AllZip S ys zs → AllZip T xs zs
+pub zip_both : {A : Type 0} (R S T : A → A → Type 0) → ((x y z : A) → R x y → S y z → T x z) → (xs ys zs : List A) → AllZip R xs ys → AllZip S ys zs
+    → AllZip T xs zs
 zip_both R S T both [] [] [] first second = tt
 zip_both R S T both [] [] (z ∷ zs) first second = absurd second
 zip_both R S T both [] (y ∷ ys) zs first second = absurd first
@@ -57,11 +61,14 @@ Kept-none held = record {
   failed = refl;
 }
 
-feeds_both : (a b : List (List ℕ)) (taken : Option (List ℕ)) → option_map (λ bytes. bytes ++ with_feeds b) (option_map (λ bytes. bytes ++ with_feeds a) taken) ≡ option_map (λ bytes. bytes ++ with_feeds (a ++ b)) taken
+feeds_both : (a b : List (List ℕ)) (taken : Option (List ℕ))
+    → option_map (λ bytes. bytes ++ with_feeds b) (option_map (λ bytes. bytes ++ with_feeds a) taken) ≡ option_map (λ bytes. bytes ++ with_feeds (a ++ b)) taken
 feeds_both a b None = refl
-feeds_both a b (Some bytes) = ap Some (append_assoc bytes (with_feeds a) (with_feeds b) ∙ ap (λ l. bytes ++ l) (sym (flat_map-append (λ line. line ++ 10 ∷ []) a b)))
+feeds_both a b (Some bytes) =
+    ap Some (append_assoc bytes (with_feeds a) (with_feeds b) ∙ ap (λ l. bytes ++ l) (sym (flat_map-append (λ line. line ++ 10 ∷ []) a b)))
 
-rose_both : (a b : List (List ℕ)) (x y z : ℕ) → y ≡ calls_after a x → y ≤ z → (0 < length a → Rose x y) → (0 < length b → Rose y z) → 0 < length (a ++ b) → Rose x z
+rose_both : (a b : List (List ℕ)) (x y z : ℕ) → y ≡ calls_after a x → y ≤ z → (0 < length a → Rose x y) → (0 < length b → Rose y z) → 0 < length (a ++ b)
+    → Rose x z
 rose_both [] b x y z is later first second some = subst (λ n. Rose n z) is (second some)
 rose_both (line ∷ a) b x y z is later first second some = let rose : Rose x y = first (omega arith) in omega (arith, rose, later)
 
@@ -76,7 +83,8 @@ Kept-both a b o m n first second = record {
 }
 
 -- a box after some lines, and then after more
-held_both : (a b : List (List ℕ)) (o : Option Held) (f : ℕ) (m : Option Held) (g : ℕ) (n : Option Held) (h : ℕ) → HeldAfter a o f m g → HeldAfter b m g n h → HeldAfter (a ++ b) o f n h
+held_both : (a b : List (List ℕ)) (o : Option Held) (f : ℕ) (m : Option Held) (g : ℕ) (n : Option Held) (h : ℕ) → HeldAfter a o f m g → HeldAfter b m g n h
+    → HeldAfter (a ++ b) o f n h
 held_both a b None f None g None h first second = second ∙ first
 held_both a b None f None g (Some n) h first second = absurd second
 held_both a b None f (Some m) g n h first second = absurd first
@@ -98,17 +106,20 @@ held_none (Some held) f = (Kept-none held, refl)
 -- ---- a row
 
 lines-append : (name : List ℕ) (a b : List Post) → lines_to name (a ++ b) ≡ lines_to name a ++ lines_to name b
-lines-append name a b = ap (map (λ (post : Post). post.line)) (filter-append (λ (post : Post). bytes_eq post.name name) a b) ∙ map-append (λ (post : Post). post.line) _ _
+lines-append name a b =
+    ap (map (λ (post : Post). post.line)) (filter-append (λ (post : Post). bytes_eq post.name name) a b) ∙ map-append (λ (post : Post). post.line) _ _
 
 pub row_none : (row : Row) → RowAfter [] row row
 row_none row = record { name = refl; held = held_none row.held row.failures }
 
 row_both : (a b : List Post) (o m n : Row) → RowAfter a o m → RowAfter b m n → RowAfter (a ++ b) o n
 row_both a b o m n first second =
-    let here : HeldAfter (lines_to o.name b) m.held m.failures n.held n.failures = subst (λ (name : List ℕ). HeldAfter (lines_to name b) m.held m.failures n.held n.failures) first.name second.held in
+    let here : HeldAfter (lines_to o.name b) m.held m.failures n.held n.failures =
+    subst (λ (name : List ℕ). HeldAfter (lines_to name b) m.held m.failures n.held n.failures) first.name second.held in
     record {
       name = second.name ∙ first.name;
-      held = subst (λ (lines : List (List ℕ)). HeldAfter lines o.held o.failures n.held n.failures) (sym (lines-append o.name a b)) (held_both (lines_to o.name a) (lines_to o.name b) o.held o.failures m.held m.failures n.held n.failures first.held here);
+      held = subst (λ (lines : List (List ℕ)). HeldAfter lines o.held o.failures n.held n.failures) (sym (lines-append o.name a b))
+          (held_both (lines_to o.name a) (lines_to o.name b) o.held o.failures m.held m.failures n.held n.failures first.held here);
     }
 
 pub rows_none : (rows : List Row) → AllZip (RowAfter []) rows rows
@@ -128,7 +139,9 @@ module _ (name line : List ℕ) where
   lines-here row is = ap (λ b. map (λ (post : Post). post.line) (cond b one [])) ((bytes_eq-Decides name row.name).1 (sym is))
 
   lines-other : (row : Row) → row.name ≢ name → lines_to row.name one ≡ []
-  lines-other row other = ap (λ b. map (λ (post : Post). post.line) (cond b one [])) (false_from_ne_true (bytes_eq name row.name) (λ is. other (sym ((bytes_eq-Decides name row.name).0 is))))
+  lines-other row other =
+      ap (λ b. map (λ (post : Post). post.line) (cond b one []))
+      (false_from_ne_true (bytes_eq name row.name) (λ is. other (sym ((bytes_eq-Decides name row.name).0 is))))
 
   -- by whether the row has the name
   by_name : (P : Type 0) (row : Row) → (row.name ≡ name → P) → (row.name ≢ name → P) → P
@@ -144,7 +157,8 @@ module _ (name line : List ℕ) where
   rose_one : (x y : ℕ) → y ≡ next_count x → x ≤ y → Rose x y
   rose_one x y is later = omega (arith, is, later)
 
-  held_taken : (end : PostEnd) → end ≢ Failed → (o n : Option Held) (f g : ℕ) → HeldPosts line end o n → g ≡ failures_after end f → HeldAfter (line ∷ []) o f n g
+  held_taken : (end : PostEnd) → end ≢ Failed → (o n : Option Held) (f g : ℕ) → HeldPosts line end o n → g ≡ failures_after end f
+      → HeldAfter (line ∷ []) o f n g
   held_taken NoBox fine None None f g posts after = after
   held_taken NoBox fine None (Some n) f g posts after = absurd posts
   held_taken NoBox fine (Some o) None f g posts after = absurd posts
@@ -184,7 +198,8 @@ module _ (name line : List ℕ) where
   taken_row end fine o n posts = by_name (RowAfter one o n) o
       (λ is. record {
         name = (posts.under is).name;
-        held = subst (λ (lines : List (List ℕ)). HeldAfter lines o.held o.failures n.held n.failures) (sym (lines-here o is)) (held_taken end fine o.held n.held o.failures n.failures (posts.under is).held (posts.under is).failures);
+        held = subst (λ (lines : List (List ℕ)). HeldAfter lines o.held o.failures n.held n.failures) (sym (lines-here o is))
+            (held_taken end fine o.held n.held o.failures n.failures (posts.under is).held (posts.under is).failures);
       })
       (λ other. subst (λ (row : Row). RowAfter one o row) (sym (posts.others other)) (record {
         name = refl;
@@ -195,11 +210,13 @@ module _ (name line : List ℕ) where
   failed_row o n posts = by_name (RowAfter one o (retired n)) o
       (λ is. record {
         name = (posts.under is).name;
-        held = subst (λ (lines : List (List ℕ)). HeldAfter lines o.held o.failures (unmarked n.held) n.failures) (sym (lines-here o is)) (held_failed o.held n.held o.failures n.failures (posts.under is).held (posts.under is).failures);
+        held = subst (λ (lines : List (List ℕ)). HeldAfter lines o.held o.failures (unmarked n.held) n.failures) (sym (lines-here o is))
+            (held_failed o.held n.held o.failures n.failures (posts.under is).held (posts.under is).failures);
       })
       (λ other. subst (λ (row : Row). RowAfter one o (retired row)) (sym (posts.others other)) (record {
         name = refl;
-        held = subst (λ (lines : List (List ℕ)). HeldAfter lines o.held o.failures (unmarked o.held) o.failures) (sym (lines-other o other)) (held_unmarked o.held o.failures);
+        held = subst (λ (lines : List (List ℕ)). HeldAfter lines o.held o.failures (unmarked o.held) o.failures) (sym (lines-other o other))
+            (held_unmarked o.held o.failures);
       }))
 
   -- a post that didn't fail, and one that did, with the marked boxes dropped behind it
@@ -225,8 +242,11 @@ take-next {A = A} xs i x at = ap (λ n. take n xs) (add-one i) ∙ by xs i at
 row-posted : (post : Post) (old new : DeskState) → IsPosted post old new → AllZip (RowAfter (post ∷ [])) old.rows new.rows
 row-posted post old new posted = by posted.end refl
   where
-    to : (end : PostEnd) → posted.end ≡ end → AllZip (RowAfter (post ∷ [])) old.rows (swept end (desk_of posted.rows old.left)).rows → AllZip (RowAfter (post ∷ [])) old.rows new.rows
-    to end is rows = subst (λ (d : DeskState). AllZip (RowAfter (post ∷ [])) old.rows d.rows) (sym (posted.behind ∙ ap (λ e. swept e (desk_of posted.rows old.left)) is)) rows
+    to : (end : PostEnd) → posted.end ≡ end → AllZip (RowAfter (post ∷ [])) old.rows (swept end (desk_of posted.rows old.left)).rows
+        → AllZip (RowAfter (post ∷ [])) old.rows new.rows
+    to end is rows =
+        subst (λ (d : DeskState). AllZip (RowAfter (post ∷ [])) old.rows d.rows) (sym (posted.behind ∙ ap (λ e. swept e (desk_of posted.rows old.left)) is))
+        rows
 
     took : (end : PostEnd) → posted.end ≡ end → AllZip (Posts post.name post.line end) old.rows posted.rows
     took end is = subst (λ (e : PostEnd). AllZip (Posts post.name post.line e) old.rows posted.rows) is posted.took
@@ -247,13 +267,17 @@ posted-both [] b x y z first second = subst (λ (d : DeskState). ArePosted b d z
 posted-both (post ∷ a) b x y z first second = (first.0, first.1, posted-both a b first.0 y z first.2 second)
 
 -- a line whose post failed, and one whose post didn't
-pub line-failed : (name line : List ℕ) (end : PostEnd) (old old_left rows left new new_left : List Row) → end ≡ Failed → ((end ≡ NoBox) ↔ IsNone (box_under name old)) → AllZip (Posts name line end) old rows → left ≡ old_left → new ≡ map retired rows → new_left ≡ left ++ filter is_marked rows → ArePosted (post_to line name ∷ []) (desk_of old old_left) (desk_of new new_left)
+pub line-failed : (name line : List ℕ) (end : PostEnd) (old old_left rows left new new_left : List Row) → end ≡ Failed
+    → ((end ≡ NoBox) ↔ IsNone (box_under name old)) → AllZip (Posts name line end) old rows → left ≡ old_left → new ≡ map retired rows
+    → new_left ≡ left ++ filter is_marked rows → ArePosted (post_to line name ∷ []) (desk_of old old_left) (desk_of new new_left)
 line-failed name line end old old_left rows left new new_left failed none took same swept_rows swept_left =
     let left_is : new_left ≡ old_left ++ filter is_marked rows = swept_left ∙ ap (λ l. l ++ filter is_marked rows) same in
-    let behind : desk_of new new_left ≡ swept end (desk_of rows old_left) = (λ i. desk_of (swept_rows i) (left_is i)) ∙ ap (λ e. swept e (desk_of rows old_left)) (sym failed) in
+    let behind : desk_of new new_left ≡ swept end (desk_of rows old_left) =
+    (λ i. desk_of (swept_rows i) (left_is i)) ∙ ap (λ e. swept e (desk_of rows old_left)) (sym failed) in
     (desk_of new new_left, record { end = end; rows = rows; no_box = none; took = took; behind = behind }, refl)
 
-pub line-taken : (name line : List ℕ) (end : PostEnd) (old old_left rows left : List Row) → end ≢ Failed → ((end ≡ NoBox) ↔ IsNone (box_under name old)) → AllZip (Posts name line end) old rows → left ≡ old_left → ArePosted (post_to line name ∷ []) (desk_of old old_left) (desk_of rows left)
+pub line-taken : (name line : List ℕ) (end : PostEnd) (old old_left rows left : List Row) → end ≢ Failed → ((end ≡ NoBox) ↔ IsNone (box_under name old))
+    → AllZip (Posts name line end) old rows → left ≡ old_left → ArePosted (post_to line name ∷ []) (desk_of old old_left) (desk_of rows left)
 line-taken name line end old old_left rows left fine none took same =
     let behind : desk_of rows left ≡ swept end (desk_of rows old_left) = ap (desk_of rows) same ∙ sym (stays end fine (desk_of rows old_left)) in
     (desk_of rows left, record { end = end; rows = rows; no_box = none; took = took; behind = behind }, refl)
@@ -275,13 +299,17 @@ on_ok-any (Ok x) holds = holds
 on_ok-any (Err e) holds = tt
 
 -- an item more
-pub posted_next : {A : Type 0} (f : A → List Post) (xs : List A) (i : ℕ) (x : A) (a b c : DeskState) → slice_get xs i ≡ Some x → ArePosted (flat_map f (take i xs)) a b → ArePosted (f x) b c → ArePosted (flat_map f (take (i + 1) xs)) a c
+pub posted_next : {A : Type 0} (f : A → List Post) (xs : List A) (i : ℕ) (x : A) (a b c : DeskState) → slice_get xs i ≡ Some x
+    → ArePosted (flat_map f (take i xs)) a b → ArePosted (f x) b c → ArePosted (flat_map f (take (i + 1) xs)) a c
 posted_next f xs i x a b c at first second =
-    let posts : flat_map f (take (i + 1) xs) ≡ flat_map f (take i xs) ++ f x = ap (flat_map f) (take-next xs i x at) ∙ flat_map-append f (take i xs) (x ∷ []) ∙ ap (λ l. flat_map f (take i xs) ++ l) (append-nil (f x)) in
+    let posts : flat_map f (take (i + 1) xs) ≡ flat_map f (take i xs) ++ f x =
+    ap (flat_map f) (take-next xs i x at) ∙ flat_map-append f (take i xs) (x ∷ []) ∙ ap (λ l. flat_map f (take i xs) ++ l) (append-nil (f x)) in
     subst (λ (l : List Post). ArePosted l a c) (sym posts) (posted-both (flat_map f (take i xs)) (f x) a b c first second)
 
 -- a name more
-pub posted_name : (f : List ℕ → Post) (names : List (List ℕ)) (i : ℕ) (name : List ℕ) (a b c : DeskState) → slice_get names i ≡ Some name → ArePosted (map f (take i names)) a b → ArePosted (f name ∷ []) b c → ArePosted (map f (take (i + 1) names)) a c
+pub posted_name : (f : List ℕ → Post) (names : List (List ℕ)) (i : ℕ) (name : List ℕ) (a b c : DeskState) → slice_get names i ≡ Some name
+    → ArePosted (map f (take i names)) a b → ArePosted (f name ∷ []) b c → ArePosted (map f (take (i + 1) names)) a c
 posted_name f names i name a b c at first second =
-    let posts : map f (take (i + 1) names) ≡ map f (take i names) ++ f name ∷ [] = ap (map f) (take-next names i name at) ∙ map-append f (take i names) (name ∷ []) in
+    let posts : map f (take (i + 1) names) ≡ map f (take i names) ++ f name ∷ [] =
+    ap (map f) (take-next names i name at) ∙ map-append f (take i names) (name ∷ []) in
     subst (λ (l : List Post). ArePosted l a c) (sym posts) (posted-both (map f (take i names)) (f name ∷ []) a b c first second)

@@ -1,5 +1,6 @@
 -- The jobs of a table, and the jobs of a state, as resources and jobs come and go.
-use Rattle.std.proofs.Common.{◌≡◌, ℕ, suc, ◌+◌, All, Bool, true, false, not, ◌&&◌, ◌||◌, cond, eqb, ltb, List, [], ◌∷◌, filter, get_or, length, map, position, slice_get, slice_set, Option, None, Some, option_map, refl, sym, ◌∙◌, ap, arith}
+use Rattle.std.proofs.Common.{◌≡◌, ℕ, suc, ◌+◌, All, Bool, true, false, not, ◌&&◌, ◌||◌, cond, eqb, ltb, List, [], ◌∷◌, filter, get_or, length, map, position}
+use Rattle.std.proofs.Common.{slice_get, slice_set, Option, None, Some, option_map, refl, sym, ◌∙◌, ap, arith}
 use Rattle.std.specs.List.{list_all, list_any, position_or_len}
 use Rattle.std.specs.Option.{option_map_or}
 use Rattle.std.proofs.lemmas.Bool.Decides.{nat_tests}
@@ -48,7 +49,8 @@ pub filter-map : {A B : Type 0} (test : B → Bool) (f : A → B) (xs : List A) 
 filter-map test f [] = refl
 filter-map test f (x ∷ xs) = by (test (f x)) (filter-map test f xs)
   where
-    by : (b : Bool) → filter test (map f xs) ≡ map f (filter (λ x. test (f x)) xs) → cond b (f x ∷ filter test (map f xs)) (filter test (map f xs)) ≡ map f (cond b (x ∷ filter (λ y. test (f y)) xs) (filter (λ y. test (f y)) xs))
+    by : (b : Bool) → filter test (map f xs) ≡ map f (filter (λ x. test (f x)) xs)
+        → cond b (f x ∷ filter test (map f xs)) (filter test (map f xs)) ≡ map f (cond b (x ∷ filter (λ y. test (f y)) xs) (filter (λ y. test (f y)) xs))
     by true rest = ap (λ l. f x ∷ l) rest
     by false rest = rest
 
@@ -79,7 +81,9 @@ position-cons test x xs = by (test x)
     n : ℕ
     n = position_or_len test xs
 
-    by : (b : Bool) → cond (ltb (cond (not b) (1 + position_or_len test xs) 0) (suc (length xs))) (Some (cond (not b) (1 + position_or_len test xs) 0)) None ≡ cond b (Some 0) (option_map suc (position test xs))
+    by : (b : Bool)
+        → cond (ltb (cond (not b) (1 + position_or_len test xs) 0) (suc (length xs))) (Some (cond (not b) (1 + position_or_len test xs) 0)) None
+        ≡ cond b (Some 0) (option_map suc (position test xs))
     by true = position_now (length xs)
     by false = position_later (position_or_len test xs) (length xs) _ refl
 
@@ -91,7 +95,8 @@ AtMostOne test jobs = (i j : ℕ) (a b : Job) → slice_get jobs i ≡ Some a �
 pub once_behind : (test : Job → Bool) (x : Job) (xs : List Job) → AtMostOne test (x ∷ xs) → AtMostOne test xs
 once_behind test x xs once = λ i j a b at_i at_j passes_a passes_b. let is : suc i ≡ suc j = once (suc i) (suc j) a b at_i at_j passes_a passes_b in omega arith
 
-pub none_behind : (test : Job → Bool) (x : Job) (xs : List Job) → AtMostOne test (x ∷ xs) → test x ≡ true → (j : ℕ) (b : Job) → slice_get xs j ≡ Some b → test b ≡ false
+pub none_behind : (test : Job → Bool) (x : Job) (xs : List Job) → AtMostOne test (x ∷ xs) → test x ≡ true → (j : ℕ) (b : Job) → slice_get xs j ≡ Some b
+    → test b ≡ false
 none_behind test x xs once passes j b at = by (test b) refl
   where
     by : (c : Bool) → test b ≡ c → c ≡ false
@@ -105,23 +110,28 @@ idle_at-next : (o : Option ℕ) (x : Job) (xs : List Job) → idle_at (option_ma
 idle_at-next None x xs = refl
 idle_at-next (Some i) x xs = by (slice_get xs i)
   where
-    by : (o : Option Job) → option_map_or (λ job. slice_set (x ∷ xs) (suc i) (idle_job job)) o (x ∷ xs) ≡ x ∷ option_map_or (λ job. slice_set xs i (idle_job job)) o xs
+    by : (o : Option Job)
+        → option_map_or (λ job. slice_set (x ∷ xs) (suc i) (idle_job job)) o (x ∷ xs) ≡ x ∷ option_map_or (λ job. slice_set xs i (idle_job job)) o xs
     by None = refl
     by (Some job) = refl
 
-pub none_idle : (test : Job → Bool) (f : Job → Job) (xs : List Job) → ((j : ℕ) (b : Job) → slice_get xs j ≡ Some b → test b ≡ false) → map f xs ≡ map (λ job. cond (test job) (idle_job (f job)) (f job)) xs
+pub none_idle : (test : Job → Bool) (f : Job → Job) (xs : List Job) → ((j : ℕ) (b : Job) → slice_get xs j ≡ Some b → test b ≡ false)
+    → map f xs ≡ map (λ job. cond (test job) (idle_job (f job)) (f job)) xs
 none_idle test f [] none = refl
 none_idle test f (x ∷ xs) none =
     ap (λ b. cond b (idle_job (f x)) (f x) ∷ map f xs) (sym (none 0 x refl))
     ∙ ap (λ l. cond (test x) (idle_job (f x)) (f x) ∷ l) (none_idle test f xs (λ j b at. none (suc j) b at))
 
 -- so making the first that passes idle makes each that passes idle
-pub idle_where : (test : Job → Bool) (f : Job → Job) (jobs : List Job) → AtMostOne test jobs → idle_at (position test jobs) (map f jobs) ≡ map (λ job. cond (test job) (idle_job (f job)) (f job)) jobs
+pub idle_where : (test : Job → Bool) (f : Job → Job) (jobs : List Job) → AtMostOne test jobs
+    → idle_at (position test jobs) (map f jobs) ≡ map (λ job. cond (test job) (idle_job (f job)) (f job)) jobs
 idle_where test f [] once = refl
-idle_where test f (x ∷ xs) once = ap (λ o. idle_at o (f x ∷ map f xs)) (position-cons test x xs) ∙ by (test x) refl (idle_where test f xs (once_behind test x xs once))
+idle_where test f (x ∷ xs) once =
+    ap (λ o. idle_at o (f x ∷ map f xs)) (position-cons test x xs) ∙ by (test x) refl (idle_where test f xs (once_behind test x xs once))
   where
     by : (b : Bool) → test x ≡ b → idle_at (position test xs) (map f xs) ≡ map (λ job. cond (test job) (idle_job (f job)) (f job)) xs
-        → idle_at (cond b (Some 0) (option_map suc (position test xs))) (f x ∷ map f xs) ≡ cond b (idle_job (f x)) (f x) ∷ map (λ job. cond (test job) (idle_job (f job)) (f job)) xs
+        → idle_at (cond b (Some 0) (option_map suc (position test xs))) (f x ∷ map f xs)
+        ≡ cond b (idle_job (f x)) (f x) ∷ map (λ job. cond (test job) (idle_job (f job)) (f job)) xs
     by true is rest = ap (λ l. idle_job (f x) ∷ l) (none_idle test f xs (none_behind test x xs once is))
     by false is rest = idle_at-next (position test xs) (f x) (map f xs) ∙ ap (λ l. f x ∷ l) rest
 
@@ -151,13 +161,16 @@ lost-each slot jobs offers claims =
     all_true [] = refl
     all_true (x ∷ xs) = all_true xs
 
-    either : (job : Job) (standing : Stage) → cond (lists (offer_of standing) slot) (idle_job (cond (lists (claim_of standing) slot) (idle_job job) job)) (cond (lists (claim_of standing) slot) (idle_job job) job) ≡ cond (lists (slots_of standing) slot) (idle_job job) job
+    either : (job : Job) (standing : Stage)
+        → cond (lists (offer_of standing) slot) (idle_job (cond (lists (claim_of standing) slot) (idle_job job) job))
+        (cond (lists (claim_of standing) slot) (idle_job job) job) ≡ cond (lists (slots_of standing) slot) (idle_job job) job
     either job Stage.Idle = refl
     either job (Stage.Matched slots) = refl
     either job (Stage.Claimed slots) = refl
 
 -- the others of a job's slots
-others_stored : (slots fewer : List ℕ) (slot : ℕ) → ((s : ℕ) → eqb s slot ≡ false → lists slots s ≡ true → lists fewer s ≡ true) → (own : List ℕ) → lists own slot ≡ false → list_all (lists slots) own ≡ true → list_all (lists fewer) own ≡ true
+others_stored : (slots fewer : List ℕ) (slot : ℕ) → ((s : ℕ) → eqb s slot ≡ false → lists slots s ≡ true → lists fewer s ≡ true) → (own : List ℕ)
+    → lists own slot ≡ false → list_all (lists slots) own ≡ true → list_all (lists fewer) own ≡ true
 others_stored slots fewer slot stay [] apart stored = refl
 others_stored slots fewer slot stay (s ∷ own) apart stored =
     let parts = neither (eqb s slot) (lists own slot) apart in
@@ -165,11 +178,13 @@ others_stored slots fewer slot stay (s ∷ own) apart stored =
     ap (λ b. b && list_all (lists fewer) own) (stay s parts.0 first.0) ∙ others_stored slots fewer slot stay own parts.1 first.1
 
 -- so what is left is stored
-pub freed-stored : (slots fewer : List ℕ) (slot : ℕ) → ((s : ℕ) → eqb s slot ≡ false → lists slots s ≡ true → lists fewer s ≡ true) → (jobs : List Job) → are_stored slots jobs ≡ true → are_stored fewer (map (freed slot) jobs) ≡ true
+pub freed-stored : (slots fewer : List ℕ) (slot : ℕ) → ((s : ℕ) → eqb s slot ≡ false → lists slots s ≡ true → lists fewer s ≡ true) → (jobs : List Job)
+    → are_stored slots jobs ≡ true → are_stored fewer (map (freed slot) jobs) ≡ true
 freed-stored slots fewer slot stay [] stored = refl
 freed-stored slots fewer slot stay (job ∷ jobs) stored =
     let parts = both (is_stored slots job) (are_stored slots jobs) stored in
-    ap (λ b. b && are_stored fewer (map (freed slot) jobs)) (one (lists (slots_of job.standing) slot) refl parts.0) ∙ freed-stored slots fewer slot stay jobs parts.1
+    ap (λ b. b && are_stored fewer (map (freed slot) jobs)) (one (lists (slots_of job.standing) slot) refl parts.0)
+    ∙ freed-stored slots fewer slot stay jobs parts.1
   where
     one : (b : Bool) → lists (slots_of job.standing) slot ≡ b → is_stored slots job ≡ true → is_stored fewer (cond b (idle_job job) job) ≡ true
     one true is held = refl
@@ -195,7 +210,8 @@ freed-kept P slot jobs kept = All-map (RequestIs P) (freed slot) jobs (λ k d wi
 
 -- ---- seen by names
 
-pub standing-same : (old new : Stock) (slots : List ℕ) → ((slot : ℕ) → lists slots slot ≡ true → name_in new slot ≡ name_in old slot) → (standing : Stage) → list_all (lists slots) (slots_of standing) ≡ true → named_standing new standing ≡ named_standing old standing
+pub standing-same : (old new : Stock) (slots : List ℕ) → ((slot : ℕ) → lists slots slot ≡ true → name_in new slot ≡ name_in old slot) → (standing : Stage)
+    → list_all (lists slots) (slots_of standing) ≡ true → named_standing new standing ≡ named_standing old standing
 standing-same old new slots same Stage.Idle stored = refl
 standing-same old new slots same (Stage.Matched own) stored = ap JobStanding.matched (map-where (lists slots) (name_in new) (name_in old) own stored same)
 standing-same old new slots same (Stage.Claimed own) stored = ap JobStanding.claimed (map-where (lists slots) (name_in new) (name_in old) own stored same)
@@ -204,9 +220,11 @@ queued-same : (old new : Stock) (job : Job) → named_standing new job.standing 
 queued-same old new job same = ap (λ standing. record (queued old job) { standing = standing }) same
 
 -- jobs whose slots keep their names
-pub queue-same : (old new : Stock) (jobs : List Job) → are_stored old.slots jobs ≡ true → ((slot : ℕ) → lists old.slots slot ≡ true → name_in new slot ≡ name_in old slot) → map (queued new) jobs ≡ map (queued old) jobs
+pub queue-same : (old new : Stock) (jobs : List Job) → are_stored old.slots jobs ≡ true
+    → ((slot : ℕ) → lists old.slots slot ≡ true → name_in new slot ≡ name_in old slot) → map (queued new) jobs ≡ map (queued old) jobs
 queue-same old new jobs stored same =
-    map-where (is_stored old.slots) (queued new) (queued old) jobs stored (λ job held. queued-same old new job (standing-same old new old.slots same job.standing held))
+    map-where (is_stored old.slots) (queued new) (queued old) jobs stored
+    (λ job held. queued-same old new job (standing-same old new old.slots same job.standing held))
 
 pub names-mapped : (stock : Stock) (standing : Stage) → names_of (named_standing stock standing) ≡ map (name_in stock) (slots_of standing)
 names-mapped stock Stage.Idle = refl

@@ -1,5 +1,6 @@
 -- Slots among the slots of a store, and where names and slots stand.
-use Rattle.std.proofs.Common.{◌≡◌, ℕ, zero, suc, All, Bool, true, false, cond, eqb, List, [], ◌∷◌, get_or, slice_get, take, Contains, Option, None, Some, option_map, refl, sym, ◌∙◌, ap}
+use Rattle.std.proofs.Common.{◌≡◌, ℕ, zero, suc, All, Bool, true, false, cond, eqb, List, [], ◌∷◌, get_or, slice_get, take, Contains, Option, None, Some}
+use Rattle.std.proofs.Common.{option_map, refl, sym, ◌∙◌, ap}
 use Rattle.std.specs.List.{find, list_all, position_or_len}
 use Rattle.std.specs.Option.{option_map_or}
 use Rattle.std.specs.Cmp.Lexicographic.{bytes_decides}
@@ -34,13 +35,16 @@ all-take p k xs all = list_all-from_AllPass p (take k xs) (All-take (λ x. p x �
 -- ---- where they stand
 
 -- the place of a slot that no other place has
-pub position-at : (slots : List ℕ) (i slot : ℕ) → slice_get slots i ≡ Some slot → ((j : ℕ) → slice_get slots j ≡ Some slot → j ≡ i) → position_or_len (λ s. eqb s slot) slots ≡ i
+pub position-at : (slots : List ℕ) (i slot : ℕ) → slice_get slots i ≡ Some slot → ((j : ℕ) → slice_get slots j ≡ Some slot → j ≡ i)
+    → position_or_len (λ s. eqb s slot) slots ≡ i
 position-at slots i slot at only =
     only (position_or_len (λ s. eqb s slot) slots)
-    (stands_at slots slot (list_any_at (λ s. eqb s slot) slots i slot (slice_get_within slots i slot at) ((Decides-eqb (get_or slots i slot) slot).1 (get_or_from_slice_get slots i slot slot at))))
+    (stands_at slots slot (list_any_at (λ s. eqb s slot) slots i slot (slice_get_within slots i slot at)
+    ((Decides-eqb (get_or slots i slot) slot).1 (get_or_from_slice_get slots i slot slot at))))
 
 -- the name of the ad in a slot
-pub name-in : (stock : Stock) (slot : ℕ) (name : List ℕ) → Contains stock.slots slot → ((i : ℕ) → slice_get stock.slots i ≡ Some slot → option_map (λ (a : Advert). a.name) (slice_get stock.ads i) ≡ Some name) → name ≡ name_in stock slot
+pub name-in : (stock : Stock) (slot : ℕ) (name : List ℕ) → Contains stock.slots slot
+    → ((i : ℕ) → slice_get stock.slots i ≡ Some slot → option_map (λ (a : Advert). a.name) (slice_get stock.ads i) ≡ Some name) → name ≡ name_in stock slot
 name-in stock slot name held called =
     let place = position_or_len (λ s. eqb s slot) stock.slots in
     by (slice_get stock.ads place) (called place (stands_at stock.slots slot (contains-lists stock.slots slot held)))
@@ -50,7 +54,8 @@ name-in stock slot name held called =
     by (Some a) is = cc
 
 -- the ad of a name that no other ad has
-pub find-at : (name : List ℕ) (ads : List Advert) (i : ℕ) (a : Advert) → slice_get ads i ≡ Some a → a.name ≡ name → ((j : ℕ) (b : Advert) → slice_get ads j ≡ Some b → b.name ≡ name → j ≡ i) → find (is_named name) ads ≡ Some a
+pub find-at : (name : List ℕ) (ads : List Advert) (i : ℕ) (a : Advert) → slice_get ads i ≡ Some a → a.name ≡ name
+    → ((j : ℕ) (b : Advert) → slice_get ads j ≡ Some b → b.name ≡ name → j ≡ i) → find (is_named name) ads ≡ Some a
 find-at name [] i a at called only = absurd (cc)
 find-at name (x ∷ xs) zero a at called only =
     let same : x ≡ a = cc in

@@ -45,19 +45,22 @@ small-without name (a ∷ held) small = by (is_named name a) (small-without name
     by false fewer = All-cons IsSmallAdvert a (without name held) (All-head IsSmallAdvert a held small) fewer
 
 -- the ads are small, whether one was put or not
-pub small-put : {T E : Type 0} (r : Result T E) (advert : Advert) (old new : Stock) → OnOk r (new.ads ≡ placed advert old.ads) → OnErr r (new ≡ old) → IsSmall advert.ad → AreSmallAds old.ads → AreSmallAds new.ads
+pub small-put : {T E : Type 0} (r : Result T E) (advert : Advert) (old new : Stock) → OnOk r (new.ads ≡ placed advert old.ads) → OnErr r (new ≡ old)
+    → IsSmall advert.ad → AreSmallAds old.ads → AreSmallAds new.ads
 small-put (Ok x) advert old new put same more small = subst AreSmallAds (sym put) (small-placed advert old.ads more small)
 small-put (Err e) advert old new put same more small = subst AreSmallAds (sym (ap (λ (s : Stock). s.ads) same)) small
 
 -- the ads are small, whether one was withdrawn or not
-pub small-withdrawn : {T E : Type 0} (r : Result T E) (name : List ℕ) (old new : Stock) → OnOk r (new.ads ≡ without name old.ads) → OnErr r (new ≡ old) → AreSmallAds old.ads → AreSmallAds new.ads
+pub small-withdrawn : {T E : Type 0} (r : Result T E) (name : List ℕ) (old new : Stock) → OnOk r (new.ads ≡ without name old.ads) → OnErr r (new ≡ old)
+    → AreSmallAds old.ads → AreSmallAds new.ads
 small-withdrawn (Ok x) name old new gone same small = subst AreSmallAds (sym gone) (small-without name old.ads small)
 small-withdrawn (Err e) name old new gone same small = subst AreSmallAds (sym (ap (λ (s : Stock). s.ads) same)) small
 
 -- ---- worlds
 
 -- a world with nothing docked
-pub small-alone : (moment : ℕ) (request : List Frame) (ports : List Port) (w : PlainWorld) → w ≡ record { moment = moment; request = request; ports = ports; docked = [] } → IsSmall request → AreSmall w
+pub small-alone : (moment : ℕ) (request : List Frame) (ports : List Port) (w : PlainWorld)
+    → w ≡ record { moment = moment; request = request; ports = ports; docked = [] } → IsSmall request → AreSmall w
 small-alone moment request ports w is small = subst AreSmall (sym is) (All-cons IsSmall request [] small (All-nil IsSmall))
 
 -- a world with one more small ad docked

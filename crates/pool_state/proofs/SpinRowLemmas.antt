@@ -26,28 +26,35 @@ module _ (stock : Stock) (jobs : List Job) where
   offer-row : (o : Offer ℕ) → seen.offer_row queue (offer_mapped (name_in stock) o) ≡ rows.offer_row stock (market.offer_named jobs o)
   offer-row o =
       ap (λ name. let r : OfferRow = record { job = name; names = map (name_in stock) o.resources } in r)
-      (ap (λ (found : Option QueuedJob). option_map_or (λ (job : QueuedJob). job.name) found []) (slice_get-map (queued stock) jobs o.job) ∙ by (slice_get jobs o.job))
+      (ap (λ (found : Option QueuedJob). option_map_or (λ (job : QueuedJob). job.name) found []) (slice_get-map (queued stock) jobs o.job)
+      ∙ by (slice_get jobs o.job))
     where
-      by : (found : Option Job) → option_map_or (λ (job : QueuedJob). job.name) (option_map (queued stock) found) [] ≡ option_map_or (λ (job : Job). job.name) found []
+      by : (found : Option Job)
+          → option_map_or (λ (job : QueuedJob). job.name) (option_map (queued stock) found) [] ≡ option_map_or (λ (job : Job). job.name) found []
       by None = refl
       by (Some job) = refl
 
-  offer-rows : (os : List (Offer ℕ)) → map (seen.offer_row queue) (map (offer_mapped (name_in stock)) os) ≡ map (rows.offer_row stock) (map (market.offer_named jobs) os)
+  offer-rows : (os : List (Offer ℕ))
+      → map (seen.offer_row queue) (map (offer_mapped (name_in stock)) os) ≡ map (rows.offer_row stock) (map (market.offer_named jobs) os)
   offer-rows [] = refl
   offer-rows (o ∷ os) =
       ap (λ r. r ∷ map (seen.offer_row queue) (map (offer_mapped (name_in stock)) os)) (offer-row o)
       ∙ ap (λ l. rows.offer_row stock (market.offer_named jobs o) ∷ l) (offer-rows os)
 
-  turn-rows : (ts : List (PlainTurn ℕ)) → map (seen.turn_row queue) (map (turn_mapped (name_in stock)) ts) ≡ map (rows.turn_row stock) (map (market.turn_named jobs) ts)
+  turn-rows : (ts : List (PlainTurn ℕ))
+      → map (seen.turn_row queue) (map (turn_mapped (name_in stock)) ts) ≡ map (rows.turn_row stock) (map (market.turn_named jobs) ts)
   turn-rows [] = refl
   turn-rows (t ∷ ts) =
-      ap (λ os. (let r : TurnRow = record { user = t.user; slice = t.slice; offers = os } in r) ∷ map (seen.turn_row queue) (map (turn_mapped (name_in stock)) ts)) (offer-rows t.offers)
+      ap (λ os. (let r : TurnRow = record { user = t.user; slice = t.slice; offers = os } in r)
+      ∷ map (seen.turn_row queue) (map (turn_mapped (name_in stock)) ts)) (offer-rows t.offers)
       ∙ ap (λ l. rows.turn_row stock (market.turn_named jobs t) ∷ l) (turn-rows ts)
 
-  pub spin-rows : (spins : List (PlainSpin ℕ)) → map (seen.spin_row queue) (map (spin_mapped (name_in stock)) spins) ≡ map (rows.spin_row stock) (map (market.spin_named jobs) spins)
+  pub spin-rows : (spins : List (PlainSpin ℕ))
+      → map (seen.spin_row queue) (map (spin_mapped (name_in stock)) spins) ≡ map (rows.spin_row stock) (map (market.spin_named jobs) spins)
   spin-rows [] = refl
   spin-rows (spin ∷ spins) =
-      ap (λ ts. (let r : SpinRow = record { free = spin.free; turns = ts } in r) ∷ map (seen.spin_row queue) (map (spin_mapped (name_in stock)) spins)) (turn-rows spin.turns)
+      ap (λ ts. (let r : SpinRow = record { free = spin.free; turns = ts } in r) ∷ map (seen.spin_row queue) (map (spin_mapped (name_in stock)) spins))
+      (turn-rows spin.turns)
       ∙ ap (λ l. rows.spin_row stock (market.spin_named jobs spin) ∷ l) (spin-rows spins)
 
 -- ---- what they tell is in the store

@@ -1,5 +1,6 @@
 -- What is told of jobs and users, by the table of jobs and by the state.
-use Rattle.std.proofs.Common.{◌≡◌, ◌∙◌, ◌++◌, ℕ, zero, suc, All, true, List, [], ◌∷◌, map, take, Contains, Option, None, Some, option_map, slice_get, refl, sym, ap, subst}
+use Rattle.std.proofs.Common.{◌≡◌, ◌∙◌, ◌++◌, ℕ, zero, suc, All, true, List, [], ◌∷◌, map, take, Contains, Option, None, Some, option_map, slice_get, refl, sym}
+use Rattle.std.proofs.Common.{ap, subst}
 use Rattle.std.specs.Option.{option_and_then, option_map_or}
 use Rattle.std.proofs.lemmas.Option.{none-some, same_Some}
 use Rattle.ad_printer.specs.Values.{printed_frame}
@@ -29,7 +30,8 @@ use Rattle.user_counts.specs.Users as counted
 -- ---- jobs
 
 -- the rows of the first jobs, and the next
-pub rows-next : (queue : List QueuedJob) (i : ℕ) (row : JobRow) → option_map job_row (slice_get queue i) ≡ Some row → map job_row (take i queue) ++ row ∷ [] ≡ map job_row (take (suc i) queue)
+pub rows-next : (queue : List QueuedJob) (i : ℕ) (row : JobRow) → option_map job_row (slice_get queue i) ≡ Some row
+    → map job_row (take i queue) ++ row ∷ [] ≡ map job_row (take (suc i) queue)
 rows-next [] i row is = absurd (none-some row is)
 rows-next (job ∷ queue) zero row is = ap (λ (r : JobRow). r ∷ []) (sym (same_Some (job_row job) row is))
 rows-next (job ∷ queue) (suc i) row is = ap (λ (rows : List JobRow). job_row job ∷ rows) (rows-next queue i row is)
@@ -39,13 +41,15 @@ state-seen stock Stage.Idle = refl
 state-seen stock (Stage.Matched slots) = refl
 state-seen stock (Stage.Claimed slots) = refl
 
-at-seen : {A : Type 0} (stock : Stock) (f : QueuedJob → A) (jobs : List Job) (i : ℕ) (job : Job) → slice_get jobs i ≡ Some job → option_map f (slice_get (map (queued stock) jobs) i) ≡ Some (f (queued stock job))
+at-seen : {A : Type 0} (stock : Stock) (f : QueuedJob → A) (jobs : List Job) (i : ℕ) (job : Job) → slice_get jobs i ≡ Some job
+    → option_map f (slice_get (map (queued stock) jobs) i) ≡ Some (f (queued stock job))
 at-seen stock f [] i job at = absurd (none-some job at)
 at-seen stock f (j ∷ jobs) zero job at = ap (λ (x : Job). Some (f (queued stock x))) (same_Some j job at)
 at-seen stock f (j ∷ jobs) (suc i) job at = at-seen stock f jobs i job at
 
 -- the part of a job that was read
-part : {A : Type 0} (f : Job → A) (jobs : List Job) (i : ℕ) (job : Job) (x : A) → slice_get jobs i ≡ Some job → option_map f (slice_get jobs i) ≡ Some x → f job ≡ x
+part : {A : Type 0} (f : Job → A) (jobs : List Job) (i : ℕ) (job : Job) (x : A) → slice_get jobs i ≡ Some job → option_map f (slice_get jobs i) ≡ Some x
+    → f job ≡ x
 part f jobs i job x at is = same_Some (f job) x (sym (ap (option_map f) at) ∙ is)
 
 -- a job at a place, of which a part was read
@@ -100,7 +104,8 @@ pub show-unknown : (name : List ℕ) (queue : List QueuedJob) → job_named name
 show-unknown name queue none = ap (λ o. option_map_or (λ (job : QueuedJob). reply.Shown (printed_frame job.ad 0)) o (reply.Refused why.UnknownName)) none
 
 pub show-known : (stock : Stock) (jobs : List Job) (name : List ℕ) (i : ℕ) (request : Request) (text : List ℕ) → numbered name jobs ≡ Some i
-    → option_map (λ (job : Job). job.request) (slice_get jobs i) ≡ Some request → text ≡ printed_frame (ad_frames request.ad) 0 → show_job name (map (queued stock) jobs) ≡ reply.Shown text
+    → option_map (λ (job : Job). job.request) (slice_get jobs i) ≡ Some request → text ≡ printed_frame (ad_frames request.ad) 0
+    → show_job name (map (queued stock) jobs) ≡ reply.Shown text
 show-known stock jobs name i request text number requests is =
     ap (λ o. option_map_or (λ (job : QueuedJob). reply.Shown (printed_frame job.ad 0)) o (reply.Refused why.UnknownName)) found
     ∙ ap (λ (r : Request). reply.Shown (printed_frame (ad_frames r.ad) 0)) (part (λ (job : Job). job.request) jobs i it.job request it.at requests)

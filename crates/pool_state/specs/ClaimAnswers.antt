@@ -22,12 +22,15 @@ names_given name jobs = option_map_or (λ job. names_of job.standing) (job_named
 abbrev pub IsClaimAnswer : Stock → State → List ℕ → State → Result (List Freed) ClaimFault → Type 0
 IsClaimAnswer stock s name t (Ok freed) = ◌≡◌ {A = State × Reply} (claim s name) (t, reply.Claimed name (names_given name s.jobs) (map (λ one. one.job) freed))
 IsClaimAnswer stock s name t (Err ClaimFault.NoJob) = ◌≡◌ {A = State × Reply} (claim s name) (t, reply.Refused why.UnknownName)
-IsClaimAnswer stock s name t (Err (ClaimFault.WrongState state)) = (is_wrong_state state ≡ true) × ◌≡◌ {A = State × Reply} (claim s name) (t, reply.Refused (why.WrongState state))
-IsClaimAnswer stock s name t (Err (ClaimFault.Stale slot)) = Contains stock.slots slot × ◌≡◌ {A = State × Reply} (claim s name) (t, reply.Refused (why.Stale (name_in stock slot)))
+IsClaimAnswer stock s name t (Err (ClaimFault.WrongState state)) =
+    (is_wrong_state state ≡ true) × ◌≡◌ {A = State × Reply} (claim s name) (t, reply.Refused (why.WrongState state))
+IsClaimAnswer stock s name t (Err (ClaimFault.Stale slot)) =
+    Contains stock.slots slot × ◌≡◌ {A = State × Reply} (claim s name) (t, reply.Refused (why.Stale (name_in stock slot)))
 IsClaimAnswer stock s name t (Err ClaimFault.OutOfMemory) = t ≡ s
 
 -- a release that is answered so
 abbrev pub IsReleaseAnswer : State → List ℕ → State → Result (List ℕ) JobFault → Type 0
 IsReleaseAnswer s name t (Ok slots) = ◌≡◌ {A = State × Reply} (release s name) (t, reply.Released name)
 IsReleaseAnswer s name t (Err JobFault.NoJob) = ◌≡◌ {A = State × Reply} (release s name) (t, reply.Refused why.UnknownName)
-IsReleaseAnswer s name t (Err (JobFault.WrongState state)) = (is_wrong_state state ≡ true) × ◌≡◌ {A = State × Reply} (release s name) (t, reply.Refused (why.WrongState state))
+IsReleaseAnswer s name t (Err (JobFault.WrongState state)) =
+    (is_wrong_state state ≡ true) × ◌≡◌ {A = State × Reply} (release s name) (t, reply.Refused (why.WrongState state))

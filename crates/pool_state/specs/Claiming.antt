@@ -1,5 +1,6 @@
 -- Claims in a state: what is offered to a job is checked anew, and only then the job has it.
-use Rattle.std.specs.Prelude.{ℕ, suc, Bool, not, ◌&&◌, List, [], ◌∷◌, ◌++◌, find, fold, length, map, slice_index_or, sum_by, take, Option, None, Some, option_map, if◌then◌else◌}
+use Rattle.std.specs.Prelude.{ℕ, suc, Bool, not, ◌&&◌, List, [], ◌∷◌, ◌++◌, find, fold, length, map, slice_index_or, sum_by, take, Option, None, Some}
+use Rattle.std.specs.Prelude.{option_map, if◌then◌else◌}
 use Rattle.std.specs.List.{list_any, range_with_len}
 use Rattle.std.specs.Option.{option_map_or}
 use Rattle.ad_store.specs.Stock.{Advert}
@@ -26,7 +27,8 @@ job_named name jobs = find (is_job name) jobs
 
 -- the world of the dock of the resource at a port: those before it are docked too
 abbrev pub world_at : ℕ → List Advert → QueuedJob → List (List ℕ) → ℕ → PlainWorld
-world_at moment ads job names port = record { moment = moment; request = job.ad; ports = ports_in job.ad; docked = map (frames_named ads) (take (suc port) names) }
+world_at moment ads job names port =
+    record { moment = moment; request = job.ad; ports = ports_in job.ad; docked = map (frames_named ads) (take (suc port) names) }
 
 -- the resource of a name, docked last, is yielded to the job, whose user has this number: it is unclaimed, it ranks its holder
 -- strictly lower, or it ranks both alike and the holder's user has at least twice the number
@@ -51,7 +53,8 @@ name_at names port = slice_index_or names port []
 abbrev pub first_failing : State → QueuedJob → List (List ℕ) → Option (List ℕ)
 first_failing s job names =
     option_map (name_at names)
-    (find (λ port. not (passes s.moment s.ads s.priorities s.jobs (priority_of job.user s.priorities) (name_at names port) (world_at s.moment s.ads job names port))) (ports_of names))
+    (find (λ port. not (passes s.moment s.ads s.priorities s.jobs (priority_of job.user s.priorities) (name_at names port)
+    (world_at s.moment s.ads job names port))) (ports_of names))
 
 -- ---- what a claim takes from others
 
@@ -81,7 +84,8 @@ without_holders names jobs = map (λ (job : QueuedJob). if holds_one names job t
 -- a job claims what is offered to it, where all of it passes; else it is idle
 abbrev pub checked : State → QueuedJob → List (List ℕ) → Option (List ℕ) → State × Reply
 checked s job names (Some failing) = (record s { jobs = restood job.name idle s.jobs }, reply.Refused (why.Stale failing))
-checked s job names None = (record s { jobs = restood job.name (claimed names) (without_holders names s.jobs) }, reply.Claimed job.name names (losers s.jobs names))
+checked s job names None =
+    (record s { jobs = restood job.name (claimed names) (without_holders names s.jobs) }, reply.Claimed job.name names (losers s.jobs names))
 
 -- only a job that something is offered to can claim
 abbrev pub claim_as : State → QueuedJob → JobStanding → State × Reply

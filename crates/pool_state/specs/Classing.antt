@@ -5,7 +5,7 @@ use Rattle.ad_tree.specs.Frames.{Frame}
 use Rattle.ad_tree.specs.declared.request.Port.{Port}
 use Rattle.job_classes.specs.Classes.{has_key}
 use Rattle.job_classes.specs.Keys.{Entry, key_of}
-use Rattle.job_classes.specs.Shown.{ads_in}
+use Rattle.significant_attrs.specs.Shown.{ads_in}
 use Rattle.pool_replies.specs.declared.reply.Reply.{Reply}
 use Rattle.pool_replies.specs.declared.reply.Reply.TheVariants as reply
 use Rattle.pool_state.specs.Ports.{ports_in}

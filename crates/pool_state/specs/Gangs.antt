@@ -28,7 +28,8 @@ gang_names moment ads settings jobs request ports = option_map (map (name_at ads
 -- `gang` and a block, by what its text is
 abbrev pub gang : ℕ → List Advert → List Setting → List QueuedJob → Result Inline ParseFault → Reply
 gang moment ads settings jobs (Err fault) = reply.Refused (why.AdText fault)
-gang moment ads settings jobs (Ok x) = option_map_or (λ ports. line (gang_names moment ads settings jobs (ad_of x) ports)) (ports_of (ad_of x)) (reply.Refused why.BadPorts)
+gang moment ads settings jobs (Ok x) =
+    option_map_or (λ ports. line (gang_names moment ads settings jobs (ad_of x) ports)) (ports_of (ad_of x)) (reply.Refused why.BadPorts)
 
 -- ---- what it may count
 
@@ -40,7 +41,8 @@ open_docks_of pool request ports = min (docks_open pool request ports) (docks_we
 -- how many docks literal attributes leave undecided for `gang` and a block, by what its text is: none where it is refused
 abbrev pub undecided_for_gang : ℕ → List Advert → List Setting → List QueuedJob → Result Inline ParseFault → ℕ
 undecided_for_gang moment ads settings jobs (Err fault) = 0
-undecided_for_gang moment ads settings jobs (Ok x) = option_map_or (λ ports. open_docks_of (pool_in moment ads settings jobs) (ad_of x) ports) (ports_of (ad_of x)) 0
+undecided_for_gang moment ads settings jobs (Ok x) =
+    option_map_or (λ ports. open_docks_of (pool_in moment ads settings jobs) (ad_of x) ports) (ports_of (ad_of x)) 0
 
 -- how many ads the narrowest tests of the ports leave, together
 abbrev pub narrowest_for_gang : List Advert → Result Inline ParseFault → ℕ

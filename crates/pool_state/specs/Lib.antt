@@ -9,6 +9,7 @@ pub mod Gangs
 pub mod Heard
 pub mod Indexed
 pub mod Keyed
+pub mod Marked
 pub mod Negotiation
 pub mod Notices
 pub mod Pool

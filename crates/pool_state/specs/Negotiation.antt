@@ -1,5 +1,6 @@
 -- Negotiation in a state: what its jobs find among its ads, and the cycle that offers it to them.
-use Rattle.std.specs.Prelude.{ℕ, suc, Bool, ◌&&◌, false, true, List, [], ◌∷◌, count_by, filter, find, length, map, max, slice_get, slice_set, sum_by, take, Option, bytes_eq, is_none, is_some, option_map}
+use Rattle.std.specs.Prelude.{ℕ, suc, Bool, ◌&&◌, false, true, List, [], ◌∷◌, count_by, filter, find, length, map, max, slice_get, slice_set, sum_by, take}
+use Rattle.std.specs.Prelude.{Option, bytes_eq, is_none, is_some, option_map}
 use Rattle.std.specs.List.{position_or_len}
 use Rattle.std.specs.Option.{option_and_then, option_map_or}
 use Rattle.ad_tree.specs.Frames.{Frame}
@@ -37,7 +38,8 @@ up_to name names = take (suc (position_or_len (bytes_eq name) names)) names
 
 -- the world of the dock by which a job holds the resource of a name: those of its resources are docked that stand up to it
 abbrev pub held_world : ℕ → List Advert → List ℕ → QueuedJob → PlainWorld
-held_world moment ads name job = record { moment = moment; request = job.ad; ports = ports_in job.ad; docked = map (frames_named ads) (up_to name (claim_names job.standing)) }
+held_world moment ads name job =
+    record { moment = moment; request = job.ad; ports = ports_in job.ad; docked = map (frames_named ads) (up_to name (claim_names job.standing)) }
 
 -- how a job holds the resource of a name: that world, and the priority number of its user
 abbrev pub held_by : ℕ → List Advert → List Setting → List ℕ → QueuedJob → Hold
@@ -64,7 +66,8 @@ places_for pool number request (port ∷ ports) = gang pool request (port ∷ po
 -- what the job at a place finds, by its names
 abbrev pub found : ℕ → List Advert → List Setting → List QueuedJob → ℕ → Option (List (List ℕ))
 found moment ads settings jobs i =
-    option_and_then (λ job. option_map (map (name_at ads)) (places_for (pool_in moment ads settings jobs) (priority_of job.user settings) job.ad (ports_in job.ad))) (slice_get jobs i)
+    option_and_then (λ job. option_map (map (name_at ads))
+    (places_for (pool_in moment ads settings jobs) (priority_of job.user settings) job.ad (ports_in job.ad))) (slice_get jobs i)
 
 -- ---- offers
 

@@ -1,5 +1,6 @@
 -- What notices are, and what posting them does to the rows of a desk.
-use Rattle.std.specs.Prelude.{◌≡◌, ◌⊎◌, ◌↔◌, ◌≤◌, ◌<◌, ℕ, List, [], ◌∷◌, ◌++◌, filter, fold, length, map, Option, None, Some, IsNone, option_map, bytes_eq, true}
+use Rattle.std.specs.Prelude.{◌≡◌, ◌⊎◌, ◌↔◌, ◌≤◌, ◌<◌, ℕ, List, [], ◌∷◌, ◌++◌, filter, fold, length, map, Option, None, Some, IsNone, option_map, bytes_eq}
+use Rattle.std.specs.Prelude.{true}
 use Rattle.std.specs.List.{AllZip, flat_map}
 use Rattle.pool_io.specs.Flow.{Rose}
 use Rattle.pool_io.specs.Memory.{next_count}

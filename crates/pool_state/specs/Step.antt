@@ -1,5 +1,6 @@
 -- What a command makes of the state, and the reply to it.
-use Rattle.std.specs.Prelude.{ℕ, ◌-◌, ◌*◌, Bool, not, ◌&&◌, List, [], ◌∷◌, ◌++◌, length, filter, find, map, nat_lt, slice_get, Option, None, Some, option_map, Result, Ok, Err, bytes_eq, if◌then◌else◌}
+use Rattle.std.specs.Prelude.{ℕ, ◌-◌, ◌*◌, Bool, not, ◌&&◌, List, [], ◌∷◌, ◌++◌, length, filter, find, map, nat_lt, slice_get, Option, None, Some, option_map}
+use Rattle.std.specs.Prelude.{Result, Ok, Err, bytes_eq, if◌then◌else◌}
 use Rattle.std.specs.List.{list_any}
 use Rattle.std.specs.Option.{option_map_or}
 use Rattle.ad_tree.specs.Frames.{Frame}
@@ -56,7 +57,10 @@ has_expired now ads name = list_any (λ advert. is_named name advert && not (is_
 abbrev pub clock : State → ℕ → State × Reply
 clock s n =
     if nat_lt n s.moment then refused s why.ClockBack
-    else (record s { moment = n; ads = live_ads n s.ads; jobs = without_resources (has_expired n s.ads) s.jobs }, reply.Clock n (length s.ads - length (live_ads n s.ads)))
+    else (
+      record s { moment = n; ads = live_ads n s.ads; jobs = without_resources (has_expired n s.ads) s.jobs },
+      reply.Clock n (length s.ads - length (live_ads n s.ads)),
+    )
 
 -- ---- ads
 
@@ -73,7 +77,8 @@ put_ad s advert None = (record s { ads = placed advert s.ads }, if has advert.na
 -- `advertise NAME LIFETIME` and a block of so many bytes, by what its text is
 abbrev pub advertise : State → List ℕ → ℕ → ℕ → Result Inline ParseFault → State × Reply
 advertise s name lifetime size (Err fault) = refused s (why.AdText fault)
-advertise s name lifetime size (Ok x) = put_ad s (record { name = name; born = s.moment; lifetime = lifetime; size = size; ad = ad_of x }) (lack name size s.ads)
+advertise s name lifetime size (Ok x) =
+    put_ad s (record { name = name; born = s.moment; lifetime = lifetime; size = size; ad = ad_of x }) (lack name size s.ads)
 
 -- `withdraw NAME`
 abbrev pub withdraw : State → List ℕ → State × Reply

@@ -1,7 +1,8 @@
 // The ads and the jobs of a pool, which change together.
-ghost use Rattle.std.specs.Prelude.{◌≡◌, ◌≢◌, ◌+◌, ◌-◌, ◌≤◌, ◌<◌, ◌++◌, ◌∷◌, [], All, true, false, not, length, bytes_eq, Contains, IfErr, IfOk, IsTrue, None, OnErr, OnOk, Some, ◌*◌, ℕ, List, map};
+ghost use Rattle.std.specs.Prelude.{◌≡◌, ◌≢◌, ◌+◌, ◌-◌, ◌≤◌, ◌<◌, ◌++◌, ◌∷◌, [], All, true, false, not, length, bytes_eq, Contains, IfErr, IfOk, IsTrue, None};
+ghost use Rattle.std.specs.Prelude.{OnErr, OnOk, Some, ◌*◌, ℕ, List, map};
 ghost use Rattle.ad_store.specs.Answers.{is_added};
-ghost use Rattle.ad_store.specs.Stock.{first_expired, has, lack, placed, without};
+ghost use Rattle.ad_store.specs.Stock.{expired_slots, first_expired, has, lack, placed, slots_without, without};
 ghost use Rattle.ad_store.specs.Store.{stock_of};
 ghost use Rattle.ad_tree.specs.Ad.{ad_frames};
 ghost use Rattle.ad_tree.specs.Small.{IsSmall};
@@ -28,6 +29,7 @@ use pool_replies::Reply;
 use pool_steps::Steps;
 use pool_text::{OutOfMemory, Slots};
 use std::alloc::Global;
+use std::convert::AsSlice;
 use std::sync::ledger::Ledger;
 
 /// The ads, and the jobs with what is offered to them and claimed by them. What a job has is held, its ports are those that its
@@ -117,6 +119,8 @@ impl Books {
     ) -> Result<bool, OutOfMemory>
         ensures held { IfOk result (λ held. held ≡ has name.now (ads_of self.old.ads)) }
         ensures ads { OnOk result (ads_of self.new.ads ≡ without name.now (ads_of self.old.ads)) }
+        ensures slots { IfOk result (λ held. held ≡ true → (stock_of self.new.ads.store).slots
+            ≡ slots_without name.now (ads_of self.old.ads) (stock_of self.old.ads.store).slots) }
         ensures jobs { IfOk result (λ held. held ≡ true
             → queue_of self.new ≡ without_resources (bytes_eq name.now) (queue_of self.old)) }
         ensures none { IfOk result (λ held. held ≡ false → queue_of self.new ≡ queue_of self.old) }
@@ -134,8 +138,8 @@ impl Books {
         Ok(true)
     }
 
-    /// The ads that are no longer live leave, one after another. Answers how many they were, and counts one at most in
-    /// `touch` for each.
+    /// The ads that are no longer live leave one after another; they are found in one pass. Answers how many they were, and counts
+    /// one at most in `touch` for each.
     pub(crate) fn expire<T: Ledger>(
         &mut self,
         now: u64,
@@ -148,14 +152,15 @@ impl Books {
         ensures looks { touch.new ≤ touch.old + (length (ads_of self.old.ads) - length (live_ads now (ads_of self.old.ads))) }
     {
         let before = self.ads.store.len();
-        while let Some(slot) = self.ads.store.next_expired(now) {
-            self.take_out(now, slot, touch)?;
+        let expired = self.ads.store.expired(now)?;
+        for slot in expired.as_slice() {
+            self.take_out(now, *slot, touch)?;
         }
         self.ads.note_soonest(now);
         Ok((before - self.ads.store.len()) as u64)
     }
 
-    // Takes out an ad that is no longer live.
+    // Takes out the first ad that is no longer live.
     fn take_out<T: Ledger>(
         &mut self,
         now: u64,
@@ -168,6 +173,8 @@ impl Books {
         ensures jobs { OnOk result (without_resources (has_expired now (ads_of self.new.ads)) (queue_of self.new)
             ≡ without_resources (has_expired now (ads_of self.old.ads)) (queue_of self.old)) }
         ensures fewer { OnOk result (length (ads_of self.new.ads) < length (ads_of self.old.ads)) }
+        ensures others { OnOk result (expired_slots now (stock_of self.old.ads.store)
+            ≡ slot ∷ expired_slots now (stock_of self.new.ads.store)) }
         ensures looks { OnOk result (touch.new ≤ touch.old + 1) }
         ensures none { OnErr result (touch.new ≡ touch.old) }
     {
@@ -208,12 +215,22 @@ impl Books {
         self.claims.remove(name).is_ok()
     }
 
-    /// Makes the index ready for searches. The ads and the jobs stay as they are, also where memory is wanting.
+    /// Closes the gaps in the orders of the ads and of the jobs, for commands that go through them. Both stay as they are.
+    pub(crate) fn settle_order(&mut self)
+        ensures { (moment : ℕ) (priorities : List Setting)
+            → state_with moment priorities self.new ≡ state_with moment priorities self.old }
+    {
+        self.claims.settle_order();
+        self.ads.settle_order();
+    }
+
+    /// Makes both orders and the index ready for searches. The ads and the jobs stay as they are, also where memory is wanting.
     pub(crate) fn settle(&mut self) -> Result<(), OutOfMemory>
         ensures state { (moment : ℕ) (priorities : List Setting)
             → state_with moment priorities self.new ≡ state_with moment priorities self.old }
         ensures ok { OnOk result (IsIndex self.new.ads.index (rows_of (stock_of self.new.ads.store))) }
     {
+        self.claims.settle_order();
         self.ads.settle()
     }
 

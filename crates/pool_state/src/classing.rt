@@ -3,7 +3,7 @@ ghost use Rattle.std.specs.Prelude.{◌≡◌, ◌+◌, ◌≤◌, List, length,
 ghost use Rattle.ad_store.specs.Stock.{Advert};
 ghost use Rattle.ad_store.specs.Store.{stock_of};
 ghost use Rattle.ad_tree.specs.Ad.{ad_frames};
-ghost use Rattle.job_classes.specs.Shown.{HasReadAds};
+ghost use Rattle.significant_attrs.specs.Shown.{HasReadAds};
 ghost use Rattle.pool_replies.specs.Replies.{is_printable};
 ghost use Rattle.pool_state.specs.Books.{queue_of};
 ghost use Rattle.pool_state.specs.Classing as steps;
@@ -12,10 +12,11 @@ ghost use Rattle.pool_state.specs.Keyed as keyed;
 
 use crate::books::Books;
 use ad_tree::Request;
-use job_classes::{Classes, Reach};
+use job_classes::{Classes, Key};
 use pool_replies::{NamesList, Reply};
 use pool_steps::Steps;
 use pool_text::OutOfMemory;
+use significant_attrs::Reach;
 use std::alloc::Global;
 use std::sync::ledger::Ledger;
 
@@ -36,14 +37,19 @@ pub(crate) fn classify<T: Ledger>(
     let mut classes = Classes::new(alloc);
     let mut lists = NamesList::new(alloc);
     for i in 0..claims.len() {
-        let number = class_of(&mut classes, &reach, claims.request(i))?;
+        let number = class_of(alloc, &mut classes, &reach, claims.request(i))?;
         lists.add(number, claims.job(i).copy()?)?;
     }
     Ok(Reply::Classes(lists))
 }
 
 // The number of the class that a request comes to: a gang begins a class that no other joins.
-fn class_of(classes: &mut Classes, reach: &Reach, request: &Request) -> Result<usize, OutOfMemory>
+fn class_of(
+    alloc: Global,
+    classes: &mut Classes,
+    reach: &Reach,
+    request: &Request,
+) -> Result<usize, OutOfMemory>
     ensures number { IfOk result (λ n. (ads : List Advert) → HasReadAds reach.now ads
         → n ≡ keyed.number_for (steps.request_key ads (ad_frames request.now.ad) request.now.ports) classes.old) }
     ensures classes { OnOk result ((ads : List Advert) → HasReadAds reach.now ads
@@ -52,6 +58,6 @@ fn class_of(classes: &mut Classes, reach: &Reach, request: &Request) -> Result<u
     if request.ports.len() > 0 {
         classes.alone()
     } else {
-        classes.join(reach.key(request)?)
+        classes.join(Key::of(alloc, reach, request)?)
     }
 }

@@ -9,7 +9,6 @@ ghost use Rattle.pool_state.specs.Explaining as steps;
 ghost use Rattle.pool_state.specs.Indexed.{ads_of};
 
 use crate::books::Books;
-use crate::losses::place_of;
 use ad_store::Store;
 use pool_replies::{Refusal, Reply};
 use pool_steps::Steps;
@@ -36,7 +35,7 @@ pub(crate) fn explain<F: Ledger, E: Ledger, T: Ledger>(
     ensures looks { touch.new ≤ touch.old + length (ads_of books.now.ads) }
 {
     let claims = &books.claims;
-    let Some(i) = place_of(claims, job) else {
+    let Some(i) = claims.number(job) else {
         return Ok(Reply::Refused(Refusal::UnknownName));
     };
     let request = claims.request(i);

@@ -47,9 +47,11 @@ pub(crate) fn gang<F: Ledger, E: Ledger, T: Ledger>(
 ) -> Result<Reply, OutOfMemory>
     requires block { IsTrue (is_block_text block.now) }
     requires index { IsIndex books.now.ads.index (rows_of (stock_of books.now.ads.store)) }
-    ensures reply { IfOk result (λ reply. steps.gang moment (ads_of books.now.ads) (settings_of priorities.now) (queue_of books.now) (ad_outcome block.now) ≡ reply) }
+    ensures reply { IfOk result (λ reply. steps.gang moment (ads_of books.now.ads) (settings_of priorities.now) (queue_of books.now) (ad_outcome block.now)
+        ≡ reply) }
     ensures printable { IfOk result (λ reply. IsTrue (is_printable reply)) }
-    ensures cost { tops.new ≤ tops.old + 3 * steps.undecided_for_gang moment (ads_of books.now.ads) (settings_of priorities.now) (queue_of books.now) (ad_outcome block.now) }
+    ensures cost { tops.new ≤ tops.old + 3 * steps.undecided_for_gang moment (ads_of books.now.ads) (settings_of priorities.now) (queue_of
+        books.now) (ad_outcome block.now) }
     ensures ratio { entry.new + 9216 * tops.old ≤ entry.old + 9216 * tops.new }
     ensures looks { touch.new ≤ touch.old + steps.narrowest_for_gang (ads_of books.now.ads) (ad_outcome block.now) }
 {

@@ -95,11 +95,19 @@ impl IndexedStore {
         Ok(())
     }
 
-    /// Makes the index ready for searches. The ads stay as they are, also where memory is wanting.
+    /// Closes the gaps in the order of the ads, which stay as they are.
+    pub(crate) fn settle_order(&mut self)
+        ensures { stock_of self.new.store ≡ stock_of self.old.store }
+    {
+        self.store.settle_order();
+    }
+
+    /// Makes the order and the index ready for searches. The ads stay as they are, also where memory is wanting.
     pub(crate) fn settle(&mut self) -> Result<(), OutOfMemory>
-        ensures store { self.new.store ≡ self.old.store }
+        ensures store { stock_of self.new.store ≡ stock_of self.old.store }
         ensures ok { OnOk result (IsIndex self.new.index (rows_of (stock_of self.new.store))) }
     {
+        self.store.settle_order();
         self.index.settle()
     }
 }

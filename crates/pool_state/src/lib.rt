@@ -14,6 +14,7 @@ mod jobs;
 mod losses;
 mod negotiation;
 mod notices;
+mod places;
 mod pool;
 mod posting;
 mod query;

@@ -1,9 +1,7 @@
 // The jobs that a command takes resources from, and the notices of that.
-ghost use Rattle.std.specs.Prelude.{◌≡◌, ◌<◌, ◌++◌, ℕ, All, Contains, length, map, not, option_map, slice_get, IfOk, IfSome, OnOk, Some};
-ghost use Rattle.ad_store.specs.Stock.{is_live};
+ghost use Rattle.std.specs.Prelude.{◌≡◌, ◌<◌, ◌++◌, ◌∷◌, [], All, Contains, length, map, option_map, slice_get, IfOk, OnOk, Some};
 ghost use Rattle.ad_store.specs.Store.{stock_of};
 ghost use Rattle.claim_table.specs.Claims.{once};
-ghost use Rattle.claim_table.specs.Jobs.{numbered};
 ghost use Rattle.claim_table.specs.Table.{jobs_of};
 ghost use Rattle.pool_state.specs.Books.{queue_of};
 ghost use Rattle.pool_state.specs.Indexed.{ads_of};
@@ -12,10 +10,9 @@ ghost use Rattle.pool_state.specs.Pool.{name_in};
 
 use crate::books::Books;
 use crate::claiming::names_given;
-use crate::notices::{about, is_same};
+use crate::notices::about;
+use crate::places::Places;
 use crate::posting::{Notice, NoticeList};
-use ad_store::Store;
-use claim_table::ClaimTable;
 use pool_script::Command;
 use pool_text::{OutOfMemory, Slots};
 use std::alloc::Global;
@@ -58,7 +55,8 @@ fn losses_at(alloc: Global, books: &Books, now: u64) -> Result<NoticeList, OutOf
     ensures { IfOk result (λ list. list ≡ rules.losses (queue_of books.now)
         (rules.had_by (queue_of books.now) (rules.expired_names now (ads_of books.now.ads)))) }
 {
-    let slots = expired(alloc, &books.ads.store, now)?;
+    books.ads.store.slots_are_apart();
+    let slots = books.ads.store.expired(now)?;
     let places = had_by(alloc, books, slots.as_slice())?;
     losses(alloc, books, &places)
 }
@@ -71,7 +69,7 @@ fn losses_of(alloc: Global, books: &Books, name: &[u8]) -> Result<NoticeList, Ou
     let Some(slot) = books.ads.store.slot_of(name) else {
         return Ok(NoticeList::new(alloc));
     };
-    let places = had_by(alloc, books, &[slot])?;
+    let places = had_at(alloc, books, slot)?;
     losses(alloc, books, &places)
 }
 
@@ -80,7 +78,7 @@ fn granted_to(alloc: Global, books: &Books, job: &[u8]) -> Result<NoticeList, Ou
     ensures { IfOk result (λ list. list ≡ rules.granted (ads_of books.now.ads) (queue_of books.now) (Command.Claim job.now)) }
 {
     let claims = &books.claims;
-    let Some(i) = place_of(claims, job) else {
+    let Some(i) = claims.number(job) else {
         return Ok(NoticeList::new(alloc));
     };
     let places = holders(alloc, books, claims.slots(job))?;
@@ -94,24 +92,11 @@ fn loss_named(alloc: Global, books: &Books, job: &[u8]) -> Result<NoticeList, Ou
     ensures { IfOk result (λ list. list ≡ rules.loss_named job.now (queue_of books.now)) }
 {
     let mut list = NoticeList::new(alloc);
-    let Some(i) = place_of(&books.claims, job) else {
+    let Some(i) = books.claims.number(job) else {
         return Ok(list);
     };
     tell_loss(alloc, books, i, &mut list)?;
     Ok(list)
-}
-
-/// The place of the job of a name.
-pub(crate) fn place_of(claims: &ClaimTable, job: &[u8]) -> Option<usize>
-    ensures within { IfSome result (λ i. i < length (jobs_of claims.now)) }
-    ensures place { result ≡ numbered job.now (jobs_of claims.now) }
-{
-    for i in 0..claims.len() {
-        if is_same(claims.job(i), job) {
-            return Some(i);
-        }
-    }
-    None
 }
 
 // The losses of the jobs at some places.
@@ -168,11 +153,26 @@ fn had_by(alloc: Global, books: &Books, slots: &[usize]) -> Result<Slots, OutOfM
 {
     books.ads.store.names_are_apart();
     books.ads.store.slots_are_apart();
-    let mut places = Slots::new(alloc);
+    let mut places = Places::new(alloc);
     for slot in slots {
-        add_place(&mut places, books.claims.claimed_by(*slot))?;
-        add_place(&mut places, books.claims.offered_to(*slot))?;
+        places.add(books.claims.claimed_by(*slot))?;
+        places.add(books.claims.offered_to(*slot))?;
     }
+    Ok(places.list)
+}
+
+// The places of the jobs that have the resource in a slot.
+fn had_at(alloc: Global, books: &Books, slot: usize) -> Result<Slots, OutOfMemory>
+    requires { Contains (stock_of books.now.ads.store).slots slot }
+    ensures places { IfOk result (λ places. places
+        ≡ rules.had_by (queue_of books.now) (name_in (stock_of books.now.ads.store) slot ∷ [])) }
+    ensures within { IfOk result (All (λ i. i < length (jobs_of books.now.claims))) }
+{
+    books.ads.store.names_are_apart();
+    books.ads.store.slots_are_apart();
+    let mut places = Slots::new(alloc);
+    add_place(&mut places, books.claims.claimed_by(slot))?;
+    add_place(&mut places, books.claims.offered_to(slot))?;
     Ok(places)
 }
 
@@ -192,7 +192,7 @@ fn holders(alloc: Global, books: &Books, slots: &[usize]) -> Result<Slots, OutOf
     Ok(places)
 }
 
-// Adds a place where there is one, unless it is among the others.
+// Adds a place where there is one, unless it is among the others, which are few.
 fn add_place(places: &mut Slots, place: Option<usize>) -> Result<(), OutOfMemory>
     ensures { OnOk result (places.new ≡ once places.old place) }
 {
@@ -203,32 +203,4 @@ fn add_place(places: &mut Slots, place: Option<usize>) -> Result<(), OutOfMemory
         return Ok(());
     }
     places.push(i)
-}
-
-// The slots of the ads that aren't live at a moment, in order.
-fn expired(alloc: Global, store: &Store, now: u64) -> Result<Slots, OutOfMemory>
-    ensures names { IfOk result (λ slots. map (name_in (stock_of store.now)) slots
-        ≡ rules.expired_names now (stock_of store.now).ads) }
-    ensures held { IfOk result (All (Contains (stock_of store.now).slots)) }
-{
-    store.names_are_apart();
-    store.slots_are_apart();
-    let mut slots = Slots::new(alloc);
-    for i in 0..store.len() {
-        let slot = store.at(i);
-        if has_ended(store, slot, now) {
-            slots.push(slot)?;
-        }
-    }
-    Ok(slots)
-}
-
-// Whether the ad in a slot isn't live at a moment.
-fn has_ended(store: &Store, slot: usize, now: u64) -> bool
-    requires { Contains (stock_of store.now).slots slot }
-    ensures { (i : ℕ) → slice_get (stock_of store.now).slots i ≡ Some slot
-        → option_map (λ advert. not (is_live now advert)) (slice_get (stock_of store.now).ads i) ≡ Some result }
-{
-    let born = store.born(slot);
-    now >= born && now - born >= store.lifetime(slot)
 }

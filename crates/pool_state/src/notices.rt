@@ -63,8 +63,8 @@ fn has_name(names: &Names, name: &[u8]) -> bool
     false
 }
 
-/// Whether a text has these bytes.
-pub(crate) fn is_same(text: &Text, bytes: &[u8]) -> bool
+// Whether a text has these bytes.
+fn is_same(text: &Text, bytes: &[u8]) -> bool
     ensures { result ≡ bytes_eq bytes.now text.now }
 {
     bytes == text.bytes()

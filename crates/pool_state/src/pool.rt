@@ -254,6 +254,10 @@ impl Pool {
                 self.books.settle()?;
                 self.search(command, tops, entry, touch)
             }
+            Command::List | Command::Jobs | Command::Users | Command::Why(_) | Command::Classes => {
+                self.books.settle_order();
+                self.tell(command, tops, entry, touch)
+            }
             _ => self.tell(command, tops, entry, touch),
         }
     }

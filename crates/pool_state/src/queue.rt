@@ -7,7 +7,6 @@ ghost use Rattle.pool_state.specs.Books.{queue_of};
 ghost use Rattle.pool_state.specs.Status as steps;
 
 use crate::books::Books;
-use crate::losses::place_of;
 use crate::negotiation::names_of;
 use ad_printer::print_ad;
 use negotiator::Priorities;
@@ -50,7 +49,7 @@ pub(crate) fn show_job(alloc: Global, books: &Books, name: &[u8]) -> Result<Repl
     ensures printable { IfOk result (λ reply. IsTrue (is_printable reply)) }
 {
     let claims = &books.claims;
-    let Some(i) = place_of(claims, name) else {
+    let Some(i) = claims.number(name) else {
         return Ok(Reply::Refused(Refusal::UnknownName));
     };
     Ok(Reply::Shown(print_ad(alloc, &claims.request(i).ad, 0)?))

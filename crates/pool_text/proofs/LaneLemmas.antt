@@ -1,5 +1,6 @@
 -- Bytes that are folded a vector at a time.
-use Rattle.std.proofs.Common.{◌≡◌, ℕ, ◌+◌, ◌*◌, ◌%◌, ◌^◌, zero, suc, replicate, Bool, true, false, not, cond, eqb, List, [], ◌∷◌, map, length, take, drop, ◌++◌, Fits, w8, refl, sym, ap, ap₂, ◌∙◌, arith}
+use Rattle.std.proofs.Common.{◌≡◌, ℕ, ◌+◌, ◌*◌, ◌%◌, ◌^◌, zero, suc, replicate, Bool, true, false, not, cond, eqb, List, [], ◌∷◌, map, length, take, drop, ◌++◌}
+use Rattle.std.proofs.Common.{Fits, w8, refl, sym, ap, ap₂, ◌∙◌, arith}
 use Rattle.std.proofs.lemmas.Bool.{agree_below, agree_below_at}
 use Rattle.std.proofs.lemmas.Bool.Decides.{nat_tests}
 use Rattle.std.proofs.lemmas.Simd.{mask_l-mod, length-zip2, tops_compared}
@@ -22,10 +23,12 @@ same_number : (a b : ℕ) → eqb a b ≡ true → a ≡ b
 same_number a b is = grind (arith, nat_tests)
 
 -- lanes of g where the mask of f has its top bit, and the lanes themselves elsewhere
-pub chosen : (f g p : ℕ → ℕ) → agree_below (λ x. eqb (cond (top 7 (f x)) (g x) x) (p x)) (λ _. true) 256 ≡ true → (v : List ℕ) → Each1 (Fits w8) v → sel_l (map (top 7) (map f v)) (map g v) v ≡ map p v
+pub chosen : (f g p : ℕ → ℕ) → agree_below (λ x. eqb (cond (top 7 (f x)) (g x) x) (p x)) (λ _. true) 256 ≡ true → (v : List ℕ) → Each1 (Fits w8) v
+    → sel_l (map (top 7) (map f v)) (map g v) v ≡ map p v
 chosen f g p all [] fits = refl
 chosen f g p all (x ∷ xs) fits =
-    ap₂ (λ a b. a ∷ b) (same_number _ _ (agree_below_at (λ y. eqb (cond (top 7 (f y)) (g y) y) (p y)) (λ _. true) 256 x all fits.0.fits)) (chosen f g p all xs fits.1)
+    ap₂ (λ a b. a ∷ b) (same_number _ _ (agree_below_at (λ y. eqb (cond (top 7 (f y)) (g y) y) (p y)) (λ _. true) 256 x all fits.0.fits))
+    (chosen f g p all xs fits.1)
 
 -- ---- lanes that are equal
 
@@ -40,7 +43,8 @@ equal_lanes n [] (y ∷ ys) long long_too none = absurd (omega arith)
 equal_lanes n (x ∷ xs) [] long long_too none = absurd (omega arith)
 equal_lanes n (x ∷ xs) (y ∷ ys) long long_too none = by_test (eqb x y) refl none (λ rest. equal_lanes (length xs) xs ys refl (omega arith) rest)
   where
-    by_test : (t : Bool) → eqb x y ≡ t → cond (not t) 1 0 + 2 * mask_l (zip2 differing xs ys) ≡ 0 → (mask_l (zip2 differing xs ys) ≡ 0 → xs ≡ ys) → x ∷ xs ≡ y ∷ ys
+    by_test : (t : Bool) → eqb x y ≡ t → cond (not t) 1 0 + 2 * mask_l (zip2 differing xs ys) ≡ 0 → (mask_l (zip2 differing xs ys) ≡ 0 → xs ≡ ys)
+        → x ∷ xs ≡ y ∷ ys
     by_test true e none_left later = ap₂ (λ a b. a ∷ b) (same_number x y e) (later (omega arith))
     by_test false e none_left later = absurd (omega arith)
 

@@ -1,3 +1,4 @@
+pub mod DigestLemmas
 pub mod FoldingLemmas
 pub mod GroupLemmas
 pub mod LaneLemmas

@@ -28,10 +28,12 @@ ended-append (x ∷ b) c =
     let more = ended-append b c in
     elim (cases_Bool (eqb x 10)) [
       | inl is ↦ ended_at x (b ++ c) is ∙ ap (λ (ls : List (List ℕ)). [] ∷ ls) more ∙ rw (ended_at x b is, rest_at x b is) refl
-      | inr is ↦ ended_onto x (b ++ c) is ∙ ap (λ (ls : List (List ℕ)). onto x ls) more ∙ ended_step x (ended b) (rest_of b) c is ∙ rw (ended_onto x b is, rest_onto x b is) refl
+      | inr is ↦ ended_onto x (b ++ c) is ∙ ap (λ (ls : List (List ℕ)). onto x ls) more ∙ ended_step x (ended b) (rest_of b) c is
+          ∙ rw (ended_onto x b is, rest_onto x b is) refl
     ]
 
-rest_step : (x : ℕ) (e : List (List ℕ)) (r c : List ℕ) → eqb x 10 ≡ false → rest_behind (e ++ ended (r ++ c)) x (rest_of (r ++ c)) ≡ rest_of (rest_behind e x r ++ c)
+rest_step : (x : ℕ) (e : List (List ℕ)) (r c : List ℕ) → eqb x 10 ≡ false
+    → rest_behind (e ++ ended (r ++ c)) x (rest_of (r ++ c)) ≡ rest_of (rest_behind e x r ++ c)
 rest_step x [] r c is = sym (rest_onto x (r ++ c) is)
 rest_step x (l ∷ ls) r c is = refl
 
@@ -42,7 +44,8 @@ rest_of-append (x ∷ b) c =
     let more = rest_of-append b c in
     elim (cases_Bool (eqb x 10)) [
       | inl is ↦ rest_at x (b ++ c) is ∙ more ∙ rw (rest_at x b is) refl
-      | inr is ↦ rest_onto x (b ++ c) is ∙ ap (λ (ls : List (List ℕ)). rest_behind ls x (rest_of (b ++ c))) (ended-append b c) ∙ ap (λ (r : List ℕ). rest_behind (ended b ++ ended (rest_of b ++ c)) x r) more ∙ rest_step x (ended b) (rest_of b) c is ∙ rw (rest_onto x b is) refl
+      | inr is ↦ rest_onto x (b ++ c) is ∙ ap (λ (ls : List (List ℕ)). rest_behind ls x (rest_of (b ++ c))) (ended-append b c)
+          ∙ ap (λ (r : List ℕ). rest_behind (ended b ++ ended (rest_of b ++ c)) x r) more ∙ rest_step x (ended b) (rest_of b) c is ∙ rw (rest_onto x b is) refl
     ]
 
 join_step : (x : ℕ) (e : List (List ℕ)) (r : List ℕ) → with_feeds (onto x e) ++ rest_behind e x r ≡ x ∷ (with_feeds e ++ r)
@@ -55,7 +58,8 @@ with_feeds-ended [] = refl
 with_feeds-ended (x ∷ b) =
     let more = with_feeds-ended b in
     elim (cases_Bool (eqb x 10)) [
-      | inl is ↦ let ten : x ≡ 10 = grind (arith, nat_tests) in rw (ended_at x b is, rest_at x b is) (ap (λ (l : List ℕ). 10 ∷ l) more ∙ ap (λ (y : ℕ). y ∷ b) (sym ten))
+      | inl is ↦ let ten : x ≡ 10 =
+          grind (arith, nat_tests) in rw (ended_at x b is, rest_at x b is) (ap (λ (l : List ℕ). 10 ∷ l) more ∙ ap (λ (y : ℕ). y ∷ b) (sym ten))
       | inr is ↦ rw (ended_onto x b is, rest_onto x b is) (join_step x (ended b) (rest_of b) ∙ ap (λ (l : List ℕ). x ∷ l) more)
     ]
 
@@ -68,7 +72,8 @@ no_feed_more x bytes other none = All-cons (λ byte. byte ≢ 10) x bytes other 
 
 no_feed_onto : (x : ℕ) (lines : List (List ℕ)) → x ≢ 10 → All HoldsNoFeed lines → All HoldsNoFeed (onto x lines)
 no_feed_onto x [] other none = none
-no_feed_onto x (line ∷ lines) other none = All-cons HoldsNoFeed (x ∷ line) lines (no_feed_more x line other (All-head HoldsNoFeed line lines none)) (All-tail HoldsNoFeed line lines none)
+no_feed_onto x (line ∷ lines) other none =
+    All-cons HoldsNoFeed (x ∷ line) lines (no_feed_more x line other (All-head HoldsNoFeed line lines none)) (All-tail HoldsNoFeed line lines none)
 
 no_feed_behind : (x : ℕ) (lines : List (List ℕ)) (rest : List ℕ) → x ≢ 10 → HoldsNoFeed rest → HoldsNoFeed (rest_behind lines x rest)
 no_feed_behind x [] rest other none = no_feed_more x rest other none

@@ -1,5 +1,6 @@
 -- Reading digit by digit is reading the whole.
-use Rattle.std.proofs.Common.{◌≡◌, ℕ, zero, suc, decimal, ◌+◌, ◌*◌, ◌^◌, ◌<◌, ◌≤◌, Bool, true, false, cond, ltb, ◌&&◌, List, [], ◌∷◌, length, slice_index, eqb, refl, sym, ◌∙◌, ap, None, Some, Option, arith}
+use Rattle.std.proofs.Common.{◌≡◌, ℕ, zero, suc, decimal, ◌+◌, ◌*◌, ◌^◌, ◌<◌, ◌≤◌, Bool, true, false, cond, ltb, ◌&&◌, List, [], ◌∷◌, length, slice_index, eqb}
+use Rattle.std.proofs.Common.{refl, sym, ◌∙◌, ap, None, Some, Option, arith}
 use Rattle.std.proofs.lemmas.Bool.Decides.{nat_tests}
 use Rattle.std.specs.Char.{is_ascii_digit, digit_value}
 use Rattle.std.specs.Str.{all_ascii_digits}
@@ -18,7 +19,8 @@ if_fits : (n : ℕ) → n < 2 ^ 64 → Some n ≡ cond (ltb n (2 ^ 64)) (Some n)
 if_fits n fits = grind (arith, nat_tests)
 
 -- one more digit: it must be one, and the number with it must be small enough
-choose : (digit small digits fits : Bool) (x y : Option ℕ) → (small ≡ false → fits ≡ false) → (small ≡ true → x ≡ cond (digits && fits) y None) → cond (digit && small) x None ≡ cond ((digit && digits) && fits) y None
+choose : (digit small digits fits : Bool) (x y : Option ℕ) → (small ≡ false → fits ≡ false) → (small ≡ true → x ≡ cond (digits && fits) y None)
+    → cond (digit && small) x None ≡ cond ((digit && digits) && fits) y None
 choose false small digits fits x y large reads = refl
 choose true true digits fits x y large reads = reads refl
 choose true false false fits x y large reads = refl
@@ -26,12 +28,14 @@ choose true false true true x y large reads = absurd (cc (large refl))
 choose true false true false x y large reads = refl
 
 -- reading the digits behind those of n gives their number, or nothing where one is no digit or the number is too large
-pub read_from-is : (n : ℕ) (cs : List ℕ) → n < 2 ^ 64 → read_from n cs ≡ cond (all_ascii_digits cs && ltb (digits_value_after 10 n cs) (2 ^ 64)) (Some (digits_value_after 10 n cs)) None
+pub read_from-is : (n : ℕ) (cs : List ℕ) → n < 2 ^ 64
+    → read_from n cs ≡ cond (all_ascii_digits cs && ltb (digits_value_after 10 n cs) (2 ^ 64)) (Some (digits_value_after 10 n cs)) None
 read_from-is n [] fits = if_fits n fits
 read_from-is n (c ∷ cs) fits =
     let next : ℕ = n * 10 + digit_value c in
     let grows = after_grows next cs in
-    choose (is_ascii_digit c) (ltb next (2 ^ 64)) (all_ascii_digits cs) (ltb (digits_value_after 10 next cs) (2 ^ 64)) (read_from next cs) (Some (digits_value_after 10 next cs)) (λ large. grind (arith, nat_tests)) (λ small. read_from-is next cs (grind (arith, nat_tests)))
+    choose (is_ascii_digit c) (ltb next (2 ^ 64)) (all_ascii_digits cs) (ltb (digits_value_after 10 next cs) (2 ^ 64)) (read_from next cs)
+    (Some (digits_value_after 10 next cs)) (λ large. grind (arith, nat_tests)) (λ small. read_from-is next cs (grind (arith, nat_tests)))
 
 and_true : (digits small : Bool) (x : Option ℕ) → cond ((digits && true) && small) x None ≡ cond (digits && small) x None
 and_true true small x = refl
@@ -45,7 +49,8 @@ without_test digits false small x is = absurd (cc)
 pub number_of-is : (bytes : List ℕ) → 0 < length bytes → (slice_index bytes 0 ≡ 48 → length bytes ≡ 1) → number_of bytes ≡ read_from 0 bytes
 number_of-is bytes some alone =
     let begins : cond (eqb (slice_index bytes 0) 48) (eqb (length bytes) 1) (ltb 0 (length bytes)) ≡ true = grind (arith, nat_tests) in
-    without_test (all_ascii_digits bytes) _ (ltb (digits_value_after 10 0 bytes) (2 ^ 64)) (Some (digits_value_after 10 0 bytes)) begins ∙ sym (read_from-is 0 bytes (omega arith))
+    without_test (all_ascii_digits bytes) _ (ltb (digits_value_after 10 0 bytes) (2 ^ 64)) (Some (digits_value_after 10 0 bytes)) begins
+    ∙ sym (read_from-is 0 bytes (omega arith))
 
 own_digits : IsNumeralModel (λ ds. all_ascii_digits ds ≡ true) (digits_value 10)
 own_digits = numerals_by_value (λ ds. all_ascii_digits ds ≡ true) tells_all_ascii_digits
@@ -71,7 +76,8 @@ all_of true true false x d b s = absurd (cc)
 pub number_of-decimal : (n : ℕ) → n < 2 ^ 64 → number_of (decimal n) ≡ Some n
 number_of-decimal n fits =
     let value = digits_value-decimal own_digits n fits in
-    all_of (all_ascii_digits (decimal n)) (begins (decimal n)) (ltb (digits_value 10 (decimal n)) (2 ^ 64)) (Some (digits_value 10 (decimal n))) (digits_decimal own_digits n fits) (decimal_begins n fits) (grind (arith, nat_tests)) ∙ ap (λ (m : ℕ). Some m) value
+    all_of (all_ascii_digits (decimal n)) (begins (decimal n)) (ltb (digits_value 10 (decimal n)) (2 ^ 64)) (Some (digits_value 10 (decimal n)))
+    (digits_decimal own_digits n fits) (decimal_begins n fits) (grind (arith, nat_tests)) ∙ ap (λ (m : ℕ). Some m) value
 
 record Parts (digits begun small : Bool) (v n : ℕ) : Type 0 where
   all : digits ≡ true

@@ -1,12 +1,14 @@
 -- Lines, one at a time.
-use Rattle.std.proofs.Common.{◌≡◌, ◌≢◌, ℕ, ◌-◌, ◌+◌, ◌≤◌, false, cond, eqb, List, [], ◌∷◌, ◌++◌, length, take, get_or, refl, sym, ◌∙◌, ap, eq-eqb, inl, inr, arith}
+use Rattle.std.proofs.Common.{◌≡◌, ◌≢◌, ℕ, ◌-◌, ◌+◌, ◌≤◌, false, cond, eqb, List, [], ◌∷◌, ◌++◌, length, take, get_or, refl, sym, ◌∙◌, ap, eq-eqb, inl, inr}
+use Rattle.std.proofs.Common.{arith}
 use Rattle.std.proofs.Math.Seq.{take-length}
 use Rattle.std.proofs.lemmas.Bool.{cases_Bool}
 use Rattle.std.proofs.lemmas.Bool.Decides.{nat_tests}
 use Rattle.std.proofs.lemmas.Grind.{take_at_read}
 use Rattle.pool_text.specs.Lines.{without_return}
 
-front_byte : (x y : ℕ) (front : List ℕ) (last : ℕ) → without_return (y ∷ front ++ last ∷ []) ≡ cond (eqb last 13) (y ∷ front) (y ∷ front ++ last ∷ []) → without_return (x ∷ y ∷ front ++ last ∷ []) ≡ cond (eqb last 13) (x ∷ y ∷ front) (x ∷ y ∷ front ++ last ∷ [])
+front_byte : (x y : ℕ) (front : List ℕ) (last : ℕ) → without_return (y ∷ front ++ last ∷ []) ≡ cond (eqb last 13) (y ∷ front) (y ∷ front ++ last ∷ [])
+    → without_return (x ∷ y ∷ front ++ last ∷ []) ≡ cond (eqb last 13) (x ∷ y ∷ front) (x ∷ y ∷ front ++ last ∷ [])
 front_byte x y front last more =
     elim (cases_Bool (eqb last 13)) [
       | inl is ↦ let front_is = rw is at more in rw is (ap (λ (l : List ℕ). x ∷ l) front_is)

@@ -20,4 +20,5 @@ past_word-le bytes = let whole = ap length (word_of-past_word bytes) in omega (a
 pub take-word_of : (bytes : List ℕ) → take (length bytes - length (past_word bytes)) bytes ≡ word_of bytes
 take-word_of bytes =
     let front : length bytes - length (past_word bytes) ≡ length (word_of bytes) = omega (arith, simp length-append at (ap length (word_of-past_word bytes))) in
-    ap (λ (n : ℕ). take n bytes) front ∙ ap (λ (b : List ℕ). take (length (word_of bytes)) b) (sym (word_of-past_word bytes)) ∙ take-append_seam (word_of bytes) (past_word bytes)
+    ap (λ (n : ℕ). take n bytes) front ∙ ap (λ (b : List ℕ). take (length (word_of bytes)) b) (sym (word_of-past_word bytes))
+    ∙ take-append_seam (word_of bytes) (past_word bytes)

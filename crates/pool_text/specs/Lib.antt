@@ -1,3 +1,4 @@
+pub mod Digests
 pub mod Folding
 pub mod Lines
 pub mod Number

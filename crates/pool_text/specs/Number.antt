@@ -1,5 +1,6 @@
 -- Whole numbers and decimals as text.
-use Rattle.std.specs.Prelude.{ℕ, suc, ◌+◌, ◌^◌, ◌/◌, ◌%◌, Bool, not, ◌&&◌, ◌==◌, nat_lt, ℤ, pos, negsuc, decimal, List, [], ◌∷◌, ◌++◌, length, take, slice_index, Option, None, Some, if◌then◌else◌}
+use Rattle.std.specs.Prelude.{ℕ, suc, ◌+◌, ◌^◌, ◌/◌, ◌%◌, Bool, not, ◌&&◌, ◌==◌, nat_lt, ℤ, pos, negsuc, decimal, List, [], ◌∷◌, ◌++◌, length, take}
+use Rattle.std.specs.Prelude.{slice_index, Option, None, Some, if◌then◌else◌}
 use Rattle.std.specs.Str.{all_ascii_digits}
 use Rattle.std.specs.Str.Parse.{digits_value}
 

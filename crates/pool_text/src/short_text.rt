@@ -4,7 +4,7 @@ ghost use Rattle.std.specs.Prelude.{◌≡◌, ◌+◌, ◌≤◌, ◌++◌, ◌
 use std::marker::Model;
 
 /// A text of so many bytes takes no memory. With their number, and the mark that tells short from long, they are 24 bytes.
-pub const LONGEST_SHORT_TEXT: usize = 22;
+pub(crate) const LONGEST_SHORT_TEXT: usize = 22;
 
 /// A list of up to `LONGEST_SHORT_TEXT` bytes, which contracts see as that list.
 #[derive(Drop)]

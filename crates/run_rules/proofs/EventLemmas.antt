@@ -34,10 +34,12 @@ refusal_count-le reply =
     ]
 
 -- what the commands may count by any measure of events
-pub sum-append : (f : Event → ℕ) (s : Heard) (a b : List Command) → sum_by f (events_of s (a ++ b)) ≡ sum_by f (events_of s a) + sum_by f (events_of (after pool_rules s a) b)
+pub sum-append : (f : Event → ℕ) (s : Heard) (a b : List Command)
+    → sum_by f (events_of s (a ++ b)) ≡ sum_by f (events_of s a) + sum_by f (events_of (after pool_rules s a) b)
 sum-append f s a b = ap (sum_by f) (events_of-append s a b) ∙ sum_by-append f (events_of s a) (events_of (after pool_rules s a) b)
 
-pub allowed-append : (s : Heard) (a b : List Command) → allowed_of (events_of s (a ++ b)) ≡ allowed_of (events_of s a) + allowed_of (events_of (after pool_rules s a) b)
+pub allowed-append : (s : Heard) (a b : List Command)
+    → allowed_of (events_of s (a ++ b)) ≡ allowed_of (events_of s a) + allowed_of (events_of (after pool_rules s a) b)
 allowed-append = sum-append (λ event. allowance event.before.pool event.command)
 
 pub looks-append : (s : Heard) (a b : List Command) → looks_of (events_of s (a ++ b)) ≡ looks_of (events_of s a) + looks_of (events_of (after pool_rules s a) b)
@@ -48,7 +50,8 @@ looks-append = sum-append (λ event. looks event.before.pool event.command)
 pub Posted-none : (s : Heard) (rows : List Row) → Posted s [] rows rows
 Posted-none s rows = rows_none rows
 
-pub posts-append : (s : Heard) (a b : List Command) → posts_of_events (events_of s (a ++ b)) ≡ posts_of_events (events_of s a) ++ posts_of_events (events_of (after pool_rules s a) b)
+pub posts-append : (s : Heard) (a b : List Command)
+    → posts_of_events (events_of s (a ++ b)) ≡ posts_of_events (events_of s a) ++ posts_of_events (events_of (after pool_rules s a) b)
 posts-append s a b = ap posts_of_events (events_of-append s a b) ∙ flat_map-append posts_of_event (events_of s a) (events_of (after pool_rules s a) b)
 
 -- the posts of commands and then of more
@@ -56,6 +59,7 @@ pub Posted-append : (s : Heard) (a b : List Command) (x y z : List Row) → Post
 Posted-append s a b x y z first second =
     let pa : List Post = posts_of_events (events_of s a) in
     let pb : List Post = posts_of_events (events_of (after pool_rules s a) b) in
-    let both : AllZip (RowAfter (pa ++ pb)) (kept b (kept a x)) z = rows_both pa pb (kept b (kept a x)) (kept b y) z (kept-zip pa b (kept a x) y first) second in
+    let both : AllZip (RowAfter (pa ++ pb)) (kept b (kept a x)) z =
+    rows_both pa pb (kept b (kept a x)) (kept b y) z (kept-zip pa b (kept a x) y first) second in
     subst (λ (l : List Post). AllZip (RowAfter l) (kept (a ++ b) x) z) (sym (posts-append s a b))
     (subst (λ (rows : List Row). AllZip (RowAfter (pa ++ pb)) rows z) (sym (kept-append a b x)) both)

@@ -11,7 +11,8 @@ module _ {State Item : Type 0} (rules : Rules State Item) where
   text-append s [] b = refl
   text-append s (x ∷ a) b =
       let behind = rules.next s x in
-      ap (λ (t : List ℕ). rules.text s x ++ t) (text-append behind a b) ∙ sym (append_assoc (rules.text s x) (text_of rules behind a) (text_of rules (after rules behind a) b))
+      ap (λ (t : List ℕ). rules.text s x ++ t) (text-append behind a b)
+      ∙ sym (append_assoc (rules.text s x) (text_of rules behind a) (text_of rules (after rules behind a) b))
 
   pub refusals-append : (s : State) (a b : List Item) → refusals_of rules s (a ++ b) ≡ refusals_of rules s a + refusals_of rules (after rules s a) b
   refusals-append s [] b = omega arith

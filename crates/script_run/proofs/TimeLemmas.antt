@@ -1,5 +1,6 @@
 -- A sink that took nothing took no answer that has a byte.
-use Rattle.std.proofs.Common.{◌≡◌, ℕ, ◌-◌, ◌≤◌, false, true, List, [], ◌∷◌, ◌++◌, length, take, drop, Option, None, Some, refl, sym, ◌∙◌, ap, inl, inr, arith, length-append, length-take}
+use Rattle.std.proofs.Common.{◌≡◌, ℕ, ◌-◌, ◌≤◌, false, true, List, [], ◌∷◌, ◌++◌, length, take, drop, Option, None, Some, refl, sym}
+use Rattle.std.proofs.Common.{◌∙◌, ap, inl, inr, arith, length-append, length-take}
 use Rattle.std.proofs.lemmas.List.{nil_from_length, take-append-drop}
 use Rattle.std.specs.Io.KnownBytes.{Appends}
 use Rattle.pool_io.specs.Flow.{Supply}
@@ -12,7 +13,8 @@ use Rattle.script_run.proofs.RulesLemmas.{text-append}
 some_same : (xs known : List ℕ) → ◌≡◌ {A = Option (List ℕ)} (Some xs) (Some known) → xs ≡ known
 some_same xs known same = cc
 
-none_appended : (old new : Option (List ℕ)) (known text : List ℕ) → old ≡ Some known → new ≡ Some known → Appends old new text → length text ≡ 0
+none_appended : (old new : Option (List ℕ)) (known text : List ℕ) → old ≡ Some known → new ≡ Some known → Appends old new text
+    → length text ≡ 0
 none_appended None new known text from to appends = absurd (cc)
 none_appended (Some xs) None known text from to appends = absurd (cc)
 none_appended (Some xs) (Some ys) known text from to appends =
@@ -30,7 +32,8 @@ begins {A} (x ∷ a) b (y ∷ front) others is fits =
 
 module _ {State Item : Type 0} (rules : Rules State Item) (lawful : IsLawful rules) (start : State) where
   -- the items that had ended before the last read come first among those that are due
-  ended_begin : (t : Supply) (bytes : List ℕ) (items : List Item) → AreDue rules.given t bytes items → (more : List Item) × (items ≡ rules.given false (before_last t bytes) ++ more)
+  ended_begin : (t : Supply) (bytes : List ℕ) (items : List Item) → AreDue rules.given t bytes items
+      → (more : List Item) × (items ≡ rules.given false (before_last t bytes) ++ more)
   ended_begin t bytes items (inl is) =
       let n : ℕ = length bytes - t.latest in
       let later = lawful.more (take n bytes) (drop n bytes) in
@@ -40,7 +43,8 @@ module _ {State Item : Type 0} (rules : Rules State Item) (lawful : IsLawful rul
       let later = lawful.whole (take n bytes) (drop n bytes) in
       (later.0, is.0 ∙ ap (λ (b : List ℕ). rules.given true b) (sym (take-append-drop n bytes)) ∙ later.1)
 
-  pub answers_first : (s t : Supply) (k m : Effects) (fault : IsWriteFault rules start s t k m) (known : List ℕ) → k.sink.taken ≡ Some known → m.sink.taken ≡ Some known → AnswersFirst rules start t m fault.bytes fault.front fault.cut
+  pub answers_first : (s t : Supply) (k m : Effects) (fault : IsWriteFault rules start s t k m) (known : List ℕ) → k.sink.taken ≡ Some known
+      → m.sink.taken ≡ Some known → AnswersFirst rules start t m fault.bytes fault.front fault.cut
   answers_first s t k m fault known from to =
       let before : List ℕ = text_of rules start fault.front in
       let cut : List ℕ = rules.text (after rules start fault.front) fault.cut in

@@ -1,5 +1,6 @@
 -- Writes one after the other.
-use Rattle.std.proofs.Common.{ℕ, ◌<◌, List, [], ◌++◌, length, take, Err, IsOk, refl, sym, ◌∙◌, subst, inl, inr, arith, length-append, append_assoc}
+use Rattle.std.proofs.Common.{ℕ, ◌<◌, List, [], ◌++◌, length, take, Err, IsOk, refl, sym, ◌∙◌, subst, inl, inr, arith, length-append}
+use Rattle.std.proofs.Common.{append_assoc}
 use Rattle.std.specs.Io.KnownBytes.{Appends}
 use Rattle.pool_io.specs.Flow.{Intake, WritesAll}
 use Rattle.pool_io.proofs.KnownLemmas.{Appends-append, Appends-nil}
@@ -26,7 +27,8 @@ is_err T e is = absurd (cc)
 -- bytes that weren't all taken
 pub Broke-at : {T E : Type 0} (k m : Intake) (bytes : List ℕ) (e : E) → WritesAll {T = T} {E = E} k m (Err e) bytes → Broke k m [] bytes
 Broke-at {T} {E} k m bytes e wrote =
-    let unsure : k.sure < length bytes = elim (at_most_or_above (length bytes) k.sure) [ inl sure ↦ absurd (is_err T e (wrote.never sure)) | inr less ↦ less ] in
+    let unsure : k.sure < length bytes =
+    elim (at_most_or_above (length bytes) k.sure) [ inl sure ↦ absurd (is_err T e (wrote.never sure)) | inr less ↦ less ] in
     record {
       count = wrote.front.0;
       proper = wrote.front.1.proper;
@@ -44,7 +46,9 @@ Broke-after k m n a b last first second =
       count = second.count;
       proper = second.proper;
       others = second.others;
-      taken = subst (λ (l : List ℕ). Appends k.taken n.taken l) (sym (append_assoc a b (take second.count last))) (Appends-append k.taken m.taken n.taken a (b ++ take second.count last) first.appended second.taken);
+      taken =
+          subst (λ (l : List ℕ). Appends k.taken n.taken l) (sym (append_assoc a b (take second.count last)))
+          (Appends-append k.taken m.taken n.taken a (b ++ take second.count last) first.appended second.taken);
       rose = omega (arith, first.same, second.rose);
       unsure = elim (at_most_or_above (length a) k.sure) [ inl sure ↦ omega (arith, first.spent sure, second.unsure) | inr unsure ↦ omega arith ];
     }

@@ -2,10 +2,9 @@
 use Rattle.std.specs.Prelude.{ℕ, Bool, true, false, ◌&&◌, List, [], ◌++◌, bytes_eq, count_by, fold, map}
 use Rattle.std.specs.BTreeSet.{insert_key}
 use Rattle.claim_table.specs.Jobs.{state_of}
-use Rattle.claim_table.specs.Priorities.{Setting, priority_of}
+use Rattle.claim_table.specs.Priorities.{Setting, priority_of, user_order}
 use Rattle.claim_table.specs.declared.answers.JobState.{JobState}
 use Rattle.claim_table.specs.declared.job.Job.{Job}
-use Rattle.negotiator.specs.Cycle.{user_order}
 use Rattle.pool_replies.specs.declared.rows.JobCounts.{JobCounts}
 use Rattle.pool_replies.specs.declared.rows.UserRow.{UserRow}
 

@@ -6,7 +6,8 @@ use Rattle.std.proofs.lemmas.List.Folds.{flat_map-map}
 use Rattle.std.proofs.lemmas.List.FromFn.{map-range_with_len_more}
 
 -- the text of one number more
-pub text-more : (f : ℕ → List ℕ) (before : List ℕ) (n : ℕ) → (before ++ flat_map f (range_with_len 0 n)) ++ f n ≡ before ++ flat_map f (range_with_len 0 (n + 1))
+pub text-more : (f : ℕ → List ℕ) (before : List ℕ) (n : ℕ)
+    → (before ++ flat_map f (range_with_len 0 n)) ++ f n ≡ before ++ flat_map f (range_with_len 0 (n + 1))
 text-more f before n =
     let same : (k : ℕ) → flat_map f (map (λ i. i) (range_with_len 0 k)) ≡ flat_map f (range_with_len 0 k) = λ k. flat_map-map f (λ i. i) (range_with_len 0 k) in
     ap (λ (t : List ℕ). (before ++ t) ++ f n) (sym (same n))
@@ -15,7 +16,8 @@ text-more f before n =
     ∙ ap (λ (t : List ℕ). before ++ t) (same (n + 1))
 
 -- five pieces, each added behind the others
-pub five-pieces : (t a b c d e : List ℕ) {u v w x y : List ℕ} → u ≡ t ++ a → v ≡ u ++ b → w ≡ v ++ c → x ≡ w ++ d → y ≡ x ++ e → y ≡ t ++ ((((a ++ b) ++ c) ++ d) ++ e)
+pub five-pieces : (t a b c d e : List ℕ) {u v w x y : List ℕ} → u ≡ t ++ a → v ≡ u ++ b → w ≡ v ++ c → x ≡ w ++ d → y ≡ x ++ e
+    → y ≡ t ++ ((((a ++ b) ++ c) ++ d) ++ e)
 five-pieces t a b c d e p q r s l =
     l ∙ ap (λ (z : List ℕ). z ++ e) (s ∙ ap (λ (z : List ℕ). z ++ d) (r ∙ ap (λ (z : List ℕ). z ++ c) (q ∙ ap (λ (z : List ℕ). z ++ b) p))) ∙ joined
   where

@@ -15,4 +15,5 @@ summary_text commands refused hits offers bytes =
 -- the counts of two summaries together have 64 bits at most
 abbrev pub HaveRoom : Summary → Summary → Type 0
 HaveRoom a b =
-    (a.commands + b.commands < 2 ^ 64) × (a.refused + b.refused < 2 ^ 64) × (a.hits + b.hits < 2 ^ 64) × (a.offers + b.offers < 2 ^ 64) × (a.bytes + b.bytes < 2 ^ 64)
+    (a.commands + b.commands < 2 ^ 64) × (a.refused + b.refused < 2 ^ 64) × (a.hits + b.hits < 2 ^ 64) × (a.offers + b.offers < 2 ^ 64)
+    × (a.bytes + b.bytes < 2 ^ 64)

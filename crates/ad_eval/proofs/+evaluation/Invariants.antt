@@ -1,10 +1,11 @@
-use Rattle.std.proofs.Common.{◌+◌, ◌*◌, drop}
+use Rattle.std.proofs.Common.{◌+◌, ◌*◌, drop, option_map}
 use Rattle.ad_tree.specs.Tree.{pack, size, size_all, three, tree, trees}
 use Rattle.ad_value.specs.Plain.{plain, plains}
 use Rattle.ad_value.specs.Demands.{all_demanded}
 use Rattle.ad_eval.specs.Chain.{chained, start}
 use Rattle.ad_eval.specs.Kept.{Counts}
-use Rattle.ad_eval.specs.Scene.{results_in, world_in}
+use Rattle.ad_eval.specs.Listed.{listed_with}
+use Rattle.ad_eval.specs.Scene.{listed_in, results_in, world_in}
 use Rattle.ad_eval.proofs.KeptLemmas.{IsPartly}
 use Rattle.ad_eval.proofs.NodeLemmas.{values_and}
 use Rattle.ad_eval.proofs.MeasureLemmas.{turn}
@@ -42,7 +43,8 @@ abbrev pub decreases-chains::call_function : goal.decreases-chains::call_functio
 decreases-chains::call_function g l = 8 * (l.scene.now.left * turn (world_in l.scene.now)) + (8 * size_all (pack (trees l.items.now)) + 5)
 
 abbrev pub decreases-chains::conditional : goal.decreases-chains::conditional
-decreases-chains::conditional g l = 8 * (l.scene.now.left * turn (world_in l.scene.now)) + (8 * size_all (three (tree l.condition.now) (tree l.first.now) (tree l.second.now)) + 3)
+decreases-chains::conditional g l =
+    8 * (l.scene.now.left * turn (world_in l.scene.now)) + (8 * size_all (three (tree l.condition.now) (tree l.first.now) (tree l.second.now)) + 3)
 
 abbrev pub decreases-chains::all_of : goal.decreases-chains::all_of
 decreases-chains::all_of g l = 8 * (l.scene.now.left * turn (world_in l.scene.now)) + (8 * size_all (pack (trees l.items.now)) + 1)
@@ -53,12 +55,22 @@ decreases-chains::chain g l = 8 * (l.scene.now.left * turn (world_in l.scene.now
 -- what is evaluated of a chain, and what is left of it
 abbrev pub invariant-chains::chain-loop-i : goal.invariant-chains::chain-loop-i
 invariant-chains::chain-loop-i g l = record {
-  partly : IsPartly (world_in l.scene) (λ n. chained l.kind (start l.kind) (results_in l.scene (pack (trees l.items)) n)) l.scene.left l.fn.guard l.guard (λ n. chained l.kind (plain l.so_far.value) (results_in l.scene (pack (drop l.i (trees l.items))) n)) l.so_far.height;
+  partly : IsPartly (world_in l.scene) (λ n. chained l.kind (start l.kind) (results_in l.scene (pack (trees l.items)) n)) l.scene.left l.fn.guard l.guard
+      (λ n. chained l.kind (plain l.so_far.value) (results_in l.scene (pack (drop l.i (trees l.items))) n)) l.so_far.height;
+  counted : Counts (world_in l.scene) l.fn.entry l.entry l.fn.guard l.guard;
+}
+
+-- what is gathered of a list literal, and what is left of it
+abbrev pub invariant-chains::list_literal-loop-i : goal.invariant-chains::list_literal-loop-i
+invariant-chains::list_literal-loop-i g l = record {
+  partly : IsPartly (world_in l.scene) (listed_in l.scene (pack (trees l.items))) l.scene.left l.fn.guard l.guard
+      (λ n. option_map (listed_with l.all.values) (all_demanded (results_in l.scene (pack (drop l.i (trees l.items))) n))) l.all.height;
   counted : Counts (world_in l.scene) l.fn.entry l.entry l.fn.guard l.guard;
 }
 
 abbrev pub invariant-chains::all_of-loop-i : goal.invariant-chains::all_of-loop-i
 invariant-chains::all_of-loop-i g l = record {
-  partly : IsPartly (world_in l.scene) (λ n. all_demanded (results_in l.scene (pack (trees l.items)) n)) l.scene.left l.fn.guard l.guard (λ n. values_and (plains l.all.values) (all_demanded (results_in l.scene (pack (drop l.i (trees l.items))) n))) l.all.height;
+  partly : IsPartly (world_in l.scene) (λ n. all_demanded (results_in l.scene (pack (trees l.items)) n)) l.scene.left l.fn.guard l.guard
+      (λ n. values_and (plains l.all.values) (all_demanded (results_in l.scene (pack (drop l.i (trees l.items))) n))) l.all.height;
   counted : Counts (world_in l.scene) l.fn.entry l.entry l.fn.guard l.guard;
 }

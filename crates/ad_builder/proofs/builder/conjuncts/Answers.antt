@@ -6,4 +6,5 @@ use Rattle.ad_builder.proofs.builder.conjuncts.Goals as goal
 
 pub returns-in-And : goal.returns-in-And
 returns-in-And c =
-    if_ok c.with_last.result (λ list more. all-longer (trees c.in-And.list) (trees list) (tree c.args.second) more (ap tree c.in-And.is ∙ tree-And c.in-And.list)) c.with_last.ensures
+    if_ok c.with_last.result (λ list more. all-longer (trees c.in-And.list) (trees list) (tree c.args.second) more
+    (ap tree c.in-And.is ∙ tree-And c.in-And.list)) c.with_last.ensures

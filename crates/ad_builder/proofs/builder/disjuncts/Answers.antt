@@ -6,4 +6,5 @@ use Rattle.ad_builder.proofs.builder.disjuncts.Goals as goal
 
 pub returns-in-Or : goal.returns-in-Or
 returns-in-Or c =
-    if_ok c.with_last.result (λ list more. any-longer (trees c.in-Or.list) (trees list) (tree c.args.second) more (ap tree c.in-Or.is ∙ tree-Or c.in-Or.list)) c.with_last.ensures
+    if_ok c.with_last.result (λ list more. any-longer (trees c.in-Or.list) (trees list) (tree c.args.second) more (ap tree c.in-Or.is ∙ tree-Or c.in-Or.list))
+    c.with_last.ensures

@@ -18,4 +18,5 @@ returns-in-Call c =
     let element = tree c.args.element in
     rw (c.in-Call.is, values_o_at enum 9 (c.in-Call.field-0, (c.in-Call.list, tt)))
     (on_ok c.push-in-Call.result (λ longer. element-taken (call c.in-Call.field-0) (trees c.in-Call.list.value) (trees c.push-in-Call.new.self) element
-    (longer ∙ ap (λ l. trees l ++ element ∷ []) (c.deref_mut.ensures.value ∙ ap (λ l. l.value) c.in-Call.list-is)) (tree-Call c.in-Call.field-0 c.in-Call.list) (tree-Call c.in-Call.field-0 _)) c.push-in-Call.ensures.ok)
+    (longer ∙ ap (λ l. trees l ++ element ∷ []) (c.deref_mut.ensures.value ∙ ap (λ l. l.value) c.in-Call.list-is)) (tree-Call c.in-Call.field-0 c.in-Call.list)
+    (tree-Call c.in-Call.field-0 _)) c.push-in-Call.ensures.ok)

@@ -8,4 +8,6 @@ use Rattle.ad_candidates.proofs.narrowing.candidates.Goals as goal
 
 pub returns-clause-places : goal.returns-clause-places
 returns-clause-places c =
-    subst (λ (ports : List Port). IfOk c.candidates_at.result (AreCandidatesAt (ad_frames c.args.request.now.ad) 0 (labels_of ports) (stock_of c.args.store.now).ads)) c.requires.single c.candidates_at.ensures.places
+    subst (λ (ports : List Port). IfOk c.candidates_at.result
+    (AreCandidatesAt (ad_frames c.args.request.now.ad) 0 (labels_of ports) (stock_of c.args.store.now).ads)) c.requires.single
+    c.candidates_at.ensures.places

@@ -17,7 +17,9 @@ pub returns-clause-value : goal.returns-clause-value
 returns-clause-value g c =
     let s : TheScene = c.args.scene.now in
     let e = tree c.args.expr.now in
-    result_of (world_in s) (values_in s e) s.left c.new-guard.result c.evaluate-evaluated.new.guard c.evaluate-evaluated.result c.value_or_error.result (unwrap_or (value_with s.left (world_of s.world.now) s.at e) error) (ap (λ o. unwrap_or o error) (scene_values s e s.left)) c.evaluate-evaluated.ensures.answer c.value_or_error.ensures
+    result_of (world_in s) (values_in s e) s.left c.new-guard.result c.evaluate-evaluated.new.guard c.evaluate-evaluated.result c.value_or_error.result
+    (unwrap_or (value_with s.left (world_of s.world.now) s.at e) error) (ap (λ o. unwrap_or o error) (scene_values s e s.left))
+    c.evaluate-evaluated.ensures.answer c.value_or_error.ensures
 
 pub returns-clause-entries : goal.returns-clause-entries
 returns-clause-entries g c =
@@ -27,4 +29,9 @@ returns-clause-entries g c =
 pub returns-clause-ratio : goal.returns-clause-ratio
 returns-clause-ratio g c small =
     let s : TheScene = c.args.scene.now in
-    omega (arith, c.tick.ensures, few-attributes s.world.now small, entered-in s c.args.entry.now c.evaluate-evaluated.new.entry c.new-guard.result c.evaluate-evaluated.new.guard c.evaluate-evaluated.ensures.counted)
+    omega (
+      arith,
+      c.tick.ensures,
+      few-attributes s.world.now small,
+      entered-in s c.args.entry.now c.evaluate-evaluated.new.entry c.new-guard.result c.evaluate-evaluated.new.guard c.evaluate-evaluated.ensures.counted,
+    )

@@ -21,7 +21,9 @@ attribute-evaluated-requires-clause-ready g c =
 pub returns-clause-value : goal.returns-clause-value
 returns-clause-value g c =
     let s : TheScene = record { alloc = c.args.alloc; world = c.args.world; at = frame_of_attribute c.args.pos; left = 24 } in
-    result_of (world_in s) (λ n. value_at n (world_in s) c.args.pos) 24 c.new-guard.result c.attribute-evaluated.new.guard c.attribute-evaluated.result c.value_or_error.result (unwrap_or (value_at 24 (world_of c.args.world.now) c.args.pos) error) (ap (λ (w : PlainWorld). unwrap_or (value_at 24 w c.args.pos) error) (scene_world s)) c.attribute-evaluated.ensures.answer c.value_or_error.ensures
+    result_of (world_in s) (λ n. value_at n (world_in s) c.args.pos) 24 c.new-guard.result c.attribute-evaluated.new.guard c.attribute-evaluated.result
+    c.value_or_error.result (unwrap_or (value_at 24 (world_of c.args.world.now) c.args.pos) error)
+    (ap (λ (w : PlainWorld). unwrap_or (value_at 24 w c.args.pos) error) (scene_world s)) c.attribute-evaluated.ensures.answer c.value_or_error.ensures
 
 pub returns-clause-entries : goal.returns-clause-entries
 returns-clause-entries g c =
@@ -31,4 +33,9 @@ returns-clause-entries g c =
 pub returns-clause-ratio : goal.returns-clause-ratio
 returns-clause-ratio g c small =
     let s : TheScene = record { alloc = c.args.alloc; world = c.args.world; at = frame_of_attribute c.args.pos; left = 24 } in
-    omega (arith, c.tick.ensures, few-attributes c.args.world.now small, entered-in s c.args.entry.now c.attribute-evaluated.new.entry c.new-guard.result c.attribute-evaluated.new.guard c.attribute-evaluated.ensures.counted)
+    omega (
+      arith,
+      c.tick.ensures,
+      few-attributes c.args.world.now small,
+      entered-in s c.args.entry.now c.attribute-evaluated.new.entry c.new-guard.result c.attribute-evaluated.new.guard c.attribute-evaluated.ensures.counted,
+    )

@@ -6,7 +6,13 @@ use Rattle.ad_grammar.specs.Rules as rules
 use Rattle.ad_grammar.specs.Steps.{left, extended, completed, ContinuesOk}
 use Rattle.ad_grammar.specs.Words.{mark as mark_word}
 use Rattle.ad_grammar.proofs.MachineLemmas.{choices, choices-nil}
-use Rattle.ad_grammar.proofs.RuleLemmas.{less, puts-ok, stops-now, puts-expected, reputs, stops-here, stops-by, stops-full, arguments-unread, arguments-broken, arguments-closed, elements-unread, elements-broken, elements-closed, list-begun, ad-begun, paren-none, paren-closed, paren-broken, primary-none, postfix-none, postfix-alone, conditionals-operandless, conditionals-choiceless, conditionals-end, conditionals-unclosed, conditionals-more, conditionals-below, conditionals-below_more, two-below, several-valueless, several-end, several-more, definitions-unnamed, definitions-valueless, definitions-stopped, definitions-end, definitions-more, suffixes-end, suffixes-select, suffixes-unselected, suffixes-placeless, suffixes-broken, suffixes-subscript}
+use Rattle.ad_grammar.proofs.RuleLemmas.{less, puts-ok, stops-now, puts-expected, reputs, stops-here, stops-by, stops-full, arguments-unread, arguments-broken}
+use Rattle.ad_grammar.proofs.RuleLemmas.{arguments-closed, elements-unread, elements-broken, elements-closed, list-begun, ad-begun, paren-none, paren-closed}
+use Rattle.ad_grammar.proofs.RuleLemmas.{paren-broken, primary-none, postfix-none, postfix-alone, conditionals-operandless, conditionals-choiceless}
+use Rattle.ad_grammar.proofs.RuleLemmas.{conditionals-end, conditionals-unclosed, conditionals-more, conditionals-below, conditionals-below_more, two-below}
+use Rattle.ad_grammar.proofs.RuleLemmas.{several-valueless, several-end, several-more, definitions-unnamed, definitions-valueless, definitions-stopped}
+use Rattle.ad_grammar.proofs.RuleLemmas.{definitions-end, definitions-more, suffixes-end, suffixes-select, suffixes-unselected, suffixes-placeless}
+use Rattle.ad_grammar.proofs.RuleLemmas.{suffixes-broken, suffixes-subscript}
 use Rattle.ad_grammar.proofs.LevelLemmas.{level-climbed, level-none, climb-end, climb-operandless, climb-shorter, climb-more}
 use Rattle.ad_grammar.proofs.grammar.+grammar.Goals as goal
 
@@ -60,7 +66,8 @@ climb-returns-in_err-level t c =
     let found = c.in-Some.ensures.within in
     stops-by w (left c.level.new.reader) (below start) (stack c.level.new.machine)
     c.from_residual.result c.in_err-level.field-0.0 c.from_residual.ensures.0 c.from_residual.ensures.1
-    (λ stop. climb-operandless c.args.fuel w c.loop-next.reached c.args.precedence (stack c.loop-next.machine) (left c.loop-next.reader) c.loop-next.invariant.read
+    (λ stop. climb-operandless c.args.fuel w c.loop-next.reached c.args.precedence (stack c.loop-next.machine) (left c.loop-next.reader)
+    c.loop-next.invariant.read
     c.in-Some.next c.in-Some.operator (left c.operator.new.self) found.0 found.1 (c.in-Some.ensures.taken c.in-Some.next c.in-Some.operator refl)
     (c.in_err-level.ensures.none (ap Err stop)))
 
@@ -203,7 +210,8 @@ marked-returns-in_ok-push-in-OpenBracket-2 t c =
     let rest = left c.definitions.new.reader in
     let last = stack c.push-in-OpenBracket-2.new.self in
     puts-ok (rules.primary e (mark_word c.args.mark ∷ ws)) rest st last c.in_ok-push-in-OpenBracket-2.field-0
-    (ad-begun e c.args.mark ws st pushed c.in-OpenBracket.is put ∙ read.ok c.in_ok-definitions-in-OpenBracket.field-0 refl ∙ ap (λ s. Some (top s, rest)) (sym closed))
+    (ad-begun e c.args.mark ws st pushed c.in-OpenBracket.is put ∙ read.ok c.in_ok-definitions-in-OpenBracket.field-0 refl
+    ∙ ap (λ s. Some (top s, rest)) (sym closed))
     (ap below closed ∙ read.on c.in_ok-definitions-in-OpenBracket.field-0 refl ∙ ap below put)
 
 pub primary-returns-in-Some : goal.primary-returns-in-Some
@@ -219,7 +227,8 @@ primary-returns-then-branch t c =
     let e = rules.expression c.args.fuel in
     let begun = c.in_ok-worded.ensures in
     let pushed = stack c.worded.new.machine in
-    reputs (rules.primary e (left c.args.reader.now)) (left c.arguments.new.reader) (stack c.args.machine.now) (stack c.arguments.new.machine) c.arguments.result
+    reputs (rules.primary e (left c.args.reader.now)) (left c.arguments.new.reader) (stack c.args.machine.now) (stack c.arguments.new.machine)
+    c.arguments.result
     (extended (top pushed) (rules.arguments e (left c.worded.new.reader))) (below pushed)
     (ap (rules.primary e) (sym (c.in_default.ensures.kept refl)) ∙ begun.call (ap Ok c.if-branch.true) e)
     (begun.on c.in_ok-worded.field-0 refl) c.arguments.ensures
@@ -280,8 +289,10 @@ some_definitions-returns-in_err-name t c =
     let w = completed (top start) (rules.definitions_at e (length ws) ws) in
     let before = stack c.loop-turns.machine in
     let n = c.loop-turns.turns in
-    stops-by w (left c.defined.new.reader) (below start) before c.from_residual.result c.in_err-name.field-0.0 c.from_residual.ensures.0 c.from_residual.ensures.1
-    (λ stop. definitions-unnamed e w n before (left c.loop-turns.reader) c.loop-turns.invariant.read c.loop-turns-test.true (c.in_err-name.ensures.none (ap Err stop)))
+    stops-by w (left c.defined.new.reader) (below start) before c.from_residual.result c.in_err-name.field-0.0 c.from_residual.ensures.0
+    c.from_residual.ensures.1
+    (λ stop. definitions-unnamed e w n before (left c.loop-turns.reader) c.loop-turns.invariant.read c.loop-turns-test.true
+    (c.in_err-name.ensures.none (ap Err stop)))
 
 pub some_definitions-returns-in_err-expression : goal.some_definitions-returns-in_err-expression
 some_definitions-returns-in_err-expression t c =
@@ -291,7 +302,8 @@ some_definitions-returns-in_err-expression t c =
     let w = completed (top start) (rules.definitions_at e (length ws) ws) in
     let before = stack c.loop-turns.machine in
     let n = c.loop-turns.turns in
-    stops-by w (left c.expression.new.reader) (below start) (stack c.expression.new.machine) c.from_residual-in_err-expression.result c.in_err-expression.field-0.0
+    stops-by w (left c.expression.new.reader) (below start) (stack c.expression.new.machine) c.from_residual-in_err-expression.result
+    c.in_err-expression.field-0.0
     c.from_residual-in_err-expression.ensures.0 c.from_residual-in_err-expression.ensures.1
     (λ stop. definitions-valueless e w n before (left c.loop-turns.reader) c.loop-turns.invariant.read c.loop-turns-test.true
     c.in_ok-name.name (left c.defined.new.reader) (c.in_ok-name.ensures.ok c.in_ok-name.name refl) (c.in_err-expression.ensures.none (ap Err stop)))
@@ -310,7 +322,8 @@ some_definitions-returns-in_err-finished t c =
     stops-by w (left c.finished.new.reader) (below start) after c.from_residual-in_err-finished.result c.in_err-finished.field-0.0
     c.from_residual-in_err-finished.ensures.0 c.from_residual-in_err-finished.ensures.1
     (λ stop. definitions-stopped e w n before (left c.loop-turns.reader) c.loop-turns.invariant.read c.loop-turns-test.true
-    c.in_ok-name.name (left c.defined.new.reader) (c.in_ok-name.ensures.ok c.in_ok-name.name refl) second (left c.expression.new.reader) (value.ok c.in_ok-expression.field-0 refl)
+    c.in_ok-name.name (left c.defined.new.reader) (c.in_ok-name.ensures.ok c.in_ok-name.name refl) second (left c.expression.new.reader)
+    (value.ok c.in_ok-expression.field-0 refl)
     (c.in_err-finished.ensures.marks.none (ap Err stop) (rules.definitions_at e (n - 1)) c.in_ok-name.name (top second)))
 
 pub some_definitions-returns-then-not-branch : goal.some_definitions-returns-then-not-branch
@@ -330,7 +343,8 @@ some_definitions-returns-then-not-branch t c =
     c.in_ok-finished.ensures.marks.ok false (ap Ok c.if-not-branch.true) in
     puts-ok w (left c.finished.new.reader) (below start) after tt
     (definitions-end e w n before (left c.loop-turns.reader) c.loop-turns.invariant.read c.loop-turns-test.true
-    c.in_ok-name.name (left c.defined.new.reader) (c.in_ok-name.ensures.ok c.in_ok-name.name refl) second (left c.expression.new.reader) (value.ok c.in_ok-expression.field-0 refl)
+    c.in_ok-name.name (left c.defined.new.reader) (c.in_ok-name.ensures.ok c.in_ok-name.name refl) second (left c.expression.new.reader)
+    (value.ok c.in_ok-expression.field-0 refl)
     after (left c.finished.new.reader) on put (closes (rules.definitions_at e (n - 1)) c.in_ok-name.name (top second)))
     (two-below (below start) before second after c.loop-turns.invariant.rest on (ap below put))
 
@@ -351,7 +365,8 @@ some_definitions-loop-turns-preserved t c =
     c.in_ok-finished.ensures.marks.ok true (ap Ok c.if-not-branch.false) in
     record {
       read = definitions-more e w n before (left c.loop-turns.reader) c.loop-turns.invariant.read c.loop-turns-test.true
-          c.in_ok-name.name (left c.defined.new.reader) (c.in_ok-name.ensures.ok c.in_ok-name.name refl) second (left c.expression.new.reader) (value.ok c.in_ok-expression.field-0 refl)
+          c.in_ok-name.name (left c.defined.new.reader) (c.in_ok-name.ensures.ok c.in_ok-name.name refl) second (left c.expression.new.reader)
+          (value.ok c.in_ok-expression.field-0 refl)
           after (left c.finished.new.reader) on put (goes (rules.definitions_at e (n - 1)) c.in_ok-name.name (top second));
       rest = two-below (below start) before second after c.loop-turns.invariant.rest on (ap below put);
     }
@@ -363,7 +378,8 @@ suffixes-returns-in_err-selection t c =
     let start = stack c.args.machine.now in
     let w = rules.suffixes e (length ws) (top start) ws in
     let before = stack c.loop-turns.machine in
-    stops-by w (left c.selection.new.reader) (below start) (stack c.selection.new.machine) c.from_residual.result c.in_err-selection.field-0.0 c.from_residual.ensures.0 c.from_residual.ensures.1
+    stops-by w (left c.selection.new.reader) (below start) (stack c.selection.new.machine) c.from_residual.result c.in_err-selection.field-0.0
+    c.from_residual.ensures.0 c.from_residual.ensures.1
     (λ stop. suffixes-unselected e w c.loop-turns.turns before (left c.loop-turns.reader) c.loop-turns.invariant.read c.loop-turns-test.true
     (left c.takes.new.self) (c.takes.ensures.taken c.if-takes.true) (c.in_err-selection.ensures.none (ap Err stop)))
 
@@ -389,7 +405,8 @@ suffixes-returns-in_err-expression t c =
     let start = stack c.args.machine.now in
     let w = rules.suffixes e (length ws) (top start) ws in
     let before = stack c.loop-turns.machine in
-    stops-by w (left c.expression.new.reader) (below start) (stack c.expression.new.machine) c.from_residual-in_err-expression.result c.in_err-expression.field-0.0
+    stops-by w (left c.expression.new.reader) (below start) (stack c.expression.new.machine) c.from_residual-in_err-expression.result
+    c.in_err-expression.field-0.0
     c.from_residual-in_err-expression.ensures.0 c.from_residual-in_err-expression.ensures.1
     (λ stop. suffixes-placeless e w c.loop-turns.turns before (left c.loop-turns.reader) c.loop-turns.invariant.read c.loop-turns-test.true
     (left c.takes.new.self) (left c.takes-else-takes.new.self) (c.takes.ensures.kept c.if-takes.false) (c.takes-else-takes.ensures.taken c.if-takes-2.true)
@@ -407,7 +424,8 @@ suffixes-returns-in_err-expect t c =
     stops-here w (left c.expect.new.self) (below start) place c.from_residual-in_err-expect.result c.from_residual-in_err-expect.ensures.0
     (suffixes-broken e w c.loop-turns.turns before (left c.loop-turns.reader) c.loop-turns.invariant.read c.loop-turns-test.true
     between (left c.takes-else-takes.new.self)
-    (c.takes.ensures.kept c.if-takes.false) (c.takes-else-takes.ensures.taken c.if-takes-2.true) (left c.expression.new.reader) (top place) (c.in_ok-expression.ensures.ok c.in_ok-expression.field-0 refl) (c.in_err-expect.ensures.none _ refl))
+    (c.takes.ensures.kept c.if-takes.false) (c.takes-else-takes.ensures.taken c.if-takes-2.true) (left c.expression.new.reader) (top place)
+    (c.in_ok-expression.ensures.ok c.in_ok-expression.field-0 refl) (c.in_err-expect.ensures.none _ refl))
 
 pub suffixes-returns-else-takes-2 : goal.suffixes-returns-else-takes-2
 suffixes-returns-else-takes-2 t c =
@@ -437,7 +455,8 @@ suffixes-loop-turns-preserved t c =
     record {
       read = suffixes-subscript e w c.loop-turns.turns before (left c.loop-turns.reader) c.loop-turns.invariant.read c.loop-turns-test.true
           between (left c.takes-else-takes.new.self)
-          (c.takes.ensures.kept c.if-takes.false) (c.takes-else-takes.ensures.taken c.if-takes-2.true) (left c.expression.new.reader) (left c.expect.new.self) place after on (c.in_ok-expression.ensures.ok c.in_ok-expression.field-0 refl)
+          (c.takes.ensures.kept c.if-takes.false) (c.takes-else-takes.ensures.taken c.if-takes-2.true) (left c.expression.new.reader) (left c.expect.new.self)
+          place after on (c.in_ok-expression.ensures.ok c.in_ok-expression.field-0 refl)
           (c.in_ok-expect.ensures.ok _ refl) c.in_ok-push.ensures.ok;
       rest = two-below (below start) before place after c.loop-turns.invariant.rest on (ap below c.in_ok-push.ensures.ok);
     }
@@ -447,16 +466,20 @@ arguments-returns-in_err-several t c =
     let e = rules.expression c.args.fuel in
     let ws = left c.args.reader.now in
     let start = stack c.args.machine.now in
-    stops-by (extended (top start) (rules.arguments e ws)) (left c.several.new.reader) (below start) (stack c.several.new.machine) c.from_residual.result c.in_err-several.field-0.0 c.from_residual.ensures.0 c.from_residual.ensures.1
-    (λ stop. arguments-unread e (top start) ws (left c.takes.new.self) (c.takes.ensures.other c.if-takes.false) (c.takes.ensures.kept c.if-takes.false) (c.in_err-several.ensures.none (ap Err stop)))
+    stops-by (extended (top start) (rules.arguments e ws)) (left c.several.new.reader) (below start) (stack c.several.new.machine) c.from_residual.result
+    c.in_err-several.field-0.0 c.from_residual.ensures.0 c.from_residual.ensures.1
+    (λ stop. arguments-unread e (top start) ws (left c.takes.new.self) (c.takes.ensures.other c.if-takes.false) (c.takes.ensures.kept c.if-takes.false)
+    (c.in_err-several.ensures.none (ap Err stop)))
 
 pub elements-returns-in_err-several : goal.elements-returns-in_err-several
 elements-returns-in_err-several t c =
     let e = rules.expression c.args.fuel in
     let ws = left c.args.reader.now in
     let start = stack c.args.machine.now in
-    stops-by (extended (top start) (rules.elements e ws)) (left c.several.new.reader) (below start) (stack c.several.new.machine) c.from_residual.result c.in_err-several.field-0.0 c.from_residual.ensures.0 c.from_residual.ensures.1
-    (λ stop. elements-unread e (top start) ws (left c.takes.new.self) (c.takes.ensures.other c.if-takes.false) (c.takes.ensures.kept c.if-takes.false) (c.in_err-several.ensures.none (ap Err stop)))
+    stops-by (extended (top start) (rules.elements e ws)) (left c.several.new.reader) (below start) (stack c.several.new.machine) c.from_residual.result
+    c.in_err-several.field-0.0 c.from_residual.ensures.0 c.from_residual.ensures.1
+    (λ stop. elements-unread e (top start) ws (left c.takes.new.self) (c.takes.ensures.other c.if-takes.false) (c.takes.ensures.kept c.if-takes.false)
+    (c.in_err-several.ensures.none (ap Err stop)))
 
 pub conditionals-returns-in_err-level : goal.conditionals-returns-in_err-level
 conditionals-returns-in_err-level t c =
@@ -464,15 +487,18 @@ conditionals-returns-in_err-level t c =
     let ws = left c.args.reader.now in
     let w = rules.conditionals e (suc (length ws)) ws in
     let before = stack c.loop-turns.machine in
-    stops-by w (left c.level.new.reader) (stack c.args.machine.now) (stack c.level.new.machine) c.from_residual.result c.in_err-level.field-0.0 c.from_residual.ensures.0 c.from_residual.ensures.1
-    (λ stop. conditionals-operandless e w c.loop-turns.pending c.loop-turns.turns before (left c.loop-turns.reader) c.loop-turns.invariant.read c.loop-turns-test.true (c.in_err-level.ensures.none (ap Err stop)))
+    stops-by w (left c.level.new.reader) (stack c.args.machine.now) (stack c.level.new.machine) c.from_residual.result c.in_err-level.field-0.0
+    c.from_residual.ensures.0 c.from_residual.ensures.1
+    (λ stop. conditionals-operandless e w c.loop-turns.pending c.loop-turns.turns before (left c.loop-turns.reader) c.loop-turns.invariant.read
+    c.loop-turns-test.true (c.in_err-level.ensures.none (ap Err stop)))
 
 pub conditionals-returns-in_err-choose : goal.conditionals-returns-in_err-choose
 conditionals-returns-in_err-choose t c =
     let e = rules.expression c.args.fuel in
     let ws = left c.args.reader.now in
     let w = rules.conditionals e (suc (length ws)) ws in
-    stops-full w (left c.takes.new.self) (stack c.args.machine.now) (stack c.choose.new.self) c.from_residual-in_err-choose.result c.from_residual-in_err-choose.ensures.0 c.from_residual-in_err-choose.ensures.1
+    stops-full w (left c.takes.new.self) (stack c.args.machine.now) (stack c.choose.new.self) c.from_residual-in_err-choose.result
+    c.from_residual-in_err-choose.ensures.0 c.from_residual-in_err-choose.ensures.1
 
 pub conditionals-returns-in_err-expression : goal.conditionals-returns-in_err-expression
 conditionals-returns-in_err-expression t c =
@@ -482,49 +508,63 @@ conditionals-returns-in_err-expression t c =
     let before = stack c.loop-turns.machine in
     let first = stack c.level.new.machine in
     let level = c.in_ok-level.ensures in
-    stops-by w (left c.expression.new.reader) (stack c.args.machine.now) (stack c.expression.new.machine) c.from_residual-in_err-expression.result c.in_err-expression.field-0.0 c.from_residual-in_err-expression.ensures.0 c.from_residual-in_err-expression.ensures.1
-    (λ stop. conditionals-choiceless e w c.loop-turns.pending c.loop-turns.turns before (left c.loop-turns.reader) c.loop-turns.invariant.read c.loop-turns-test.true
+    stops-by w (left c.expression.new.reader) (stack c.args.machine.now) (stack c.expression.new.machine) c.from_residual-in_err-expression.result
+    c.in_err-expression.field-0.0 c.from_residual-in_err-expression.ensures.0 c.from_residual-in_err-expression.ensures.1
+    (λ stop. conditionals-choiceless e w c.loop-turns.pending c.loop-turns.turns before (left c.loop-turns.reader) c.loop-turns.invariant.read
+    c.loop-turns-test.true
     (left c.level.new.reader) (left c.takes.new.self) first (level.on c.in_ok-level.field-0 refl) (level.ok c.in_ok-level.field-0 refl)
     (c.takes.ensures.taken c.if-not-takes.false) (c.in_err-expression.ensures.none (ap Err stop)))
 
 pub expression-returns-in_err-lone : goal.expression-returns-in_err-lone
 expression-returns-in_err-lone t c =
-    stops-full (rules.expression c.args.fuel (left c.args.reader.now)) (left c.lone.new.reader) (stack c.args.machine.now) (stack c.lone.new.machine) c.from_residual.result c.from_residual.ensures.0 c.from_residual.ensures.1
+    stops-full (rules.expression c.args.fuel (left c.args.reader.now)) (left c.lone.new.reader) (stack c.args.machine.now) (stack c.lone.new.machine)
+    c.from_residual.result c.from_residual.ensures.0 c.from_residual.ensures.1
 
 pub marked-returns-in_err-push-in-OpenBrace : goal.marked-returns-in_err-push-in-OpenBrace
 marked-returns-in_err-push-in-OpenBrace t c =
     let e = rules.expression c.args.fuel in
-    stops-full (rules.primary e (mark_word c.args.mark ∷ left c.args.reader.now)) (left c.args.reader.now) (stack c.args.machine.now) (stack c.push.new.self) c.from_residual.result c.from_residual.ensures.0 c.from_residual.ensures.1
+    stops-full (rules.primary e (mark_word c.args.mark ∷ left c.args.reader.now)) (left c.args.reader.now) (stack c.args.machine.now) (stack c.push.new.self)
+    c.from_residual.result c.from_residual.ensures.0 c.from_residual.ensures.1
 
 pub marked-returns-in_err-push-in-OpenBracket : goal.marked-returns-in_err-push-in-OpenBracket
 marked-returns-in_err-push-in-OpenBracket t c =
     let e = rules.expression c.args.fuel in
-    stops-full (rules.primary e (mark_word c.args.mark ∷ left c.args.reader.now)) (left c.args.reader.now) (stack c.args.machine.now) (stack c.push-in-OpenBracket.new.self) c.from_residual-in_err-push-in-OpenBracket.result c.from_residual-in_err-push-in-OpenBracket.ensures.0 c.from_residual-in_err-push-in-OpenBracket.ensures.1
+    stops-full (rules.primary e (mark_word c.args.mark ∷ left c.args.reader.now)) (left c.args.reader.now) (stack c.args.machine.now)
+    (stack c.push-in-OpenBracket.new.self) c.from_residual-in_err-push-in-OpenBracket.result c.from_residual-in_err-push-in-OpenBracket.ensures.0
+    c.from_residual-in_err-push-in-OpenBracket.ensures.1
 
 pub marked-returns-in_err-push-in-OpenBracket-2 : goal.marked-returns-in_err-push-in-OpenBracket-2
 marked-returns-in_err-push-in-OpenBracket-2 t c =
     let e = rules.expression c.args.fuel in
-    stops-full (rules.primary e (mark_word c.args.mark ∷ left c.args.reader.now)) (left c.definitions.new.reader) (stack c.args.machine.now) (stack c.push-in-OpenBracket-2.new.self) c.from_residual-in_err-push-in-OpenBracket-2.result c.from_residual-in_err-push-in-OpenBracket-2.ensures.0 c.from_residual-in_err-push-in-OpenBracket-2.ensures.1
+    stops-full (rules.primary e (mark_word c.args.mark ∷ left c.args.reader.now)) (left c.definitions.new.reader) (stack c.args.machine.now)
+    (stack c.push-in-OpenBracket-2.new.self) c.from_residual-in_err-push-in-OpenBracket-2.result c.from_residual-in_err-push-in-OpenBracket-2.ensures.0
+    c.from_residual-in_err-push-in-OpenBracket-2.ensures.1
 
 pub marked-returns-in_err-definitions-in-OpenBracket : goal.marked-returns-in_err-definitions-in-OpenBracket
 marked-returns-in_err-definitions-in-OpenBracket t c =
     let e = rules.expression c.args.fuel in
     let start = stack c.args.machine.now in
-    stops-by (rules.primary e (mark_word c.args.mark ∷ left c.args.reader.now)) (left c.definitions.new.reader) start (stack c.definitions.new.machine) c.from_residual-in_err-definitions-in-OpenBracket.result c.in_err-definitions-in-OpenBracket.field-0.0 c.from_residual-in_err-definitions-in-OpenBracket.ensures.0 c.from_residual-in_err-definitions-in-OpenBracket.ensures.1
-    (λ stop. ad-begun e c.args.mark (left c.args.reader.now) start (stack c.push-in-OpenBracket.new.self) c.in-OpenBracket.is c.in_ok-push-in-OpenBracket.ensures.ok
+    stops-by (rules.primary e (mark_word c.args.mark ∷ left c.args.reader.now)) (left c.definitions.new.reader) start (stack c.definitions.new.machine)
+    c.from_residual-in_err-definitions-in-OpenBracket.result c.in_err-definitions-in-OpenBracket.field-0.0
+    c.from_residual-in_err-definitions-in-OpenBracket.ensures.0 c.from_residual-in_err-definitions-in-OpenBracket.ensures.1
+    (λ stop. ad-begun e c.args.mark (left c.args.reader.now) start (stack c.push-in-OpenBracket.new.self) c.in-OpenBracket.is
+    c.in_ok-push-in-OpenBracket.ensures.ok
     ∙ c.in_err-definitions-in-OpenBracket.ensures.none (ap Err stop))
 
 pub marked-returns-in_err-expression-in-OpenParen : goal.marked-returns-in_err-expression-in-OpenParen
 marked-returns-in_err-expression-in-OpenParen t c =
     let e = rules.expression c.args.fuel in
-    stops-by (rules.primary e (mark_word c.args.mark ∷ left c.args.reader.now)) (left c.expression.new.reader) (stack c.args.machine.now) (stack c.expression.new.machine) c.from_residual-in_err-expression-in-OpenParen.result c.in_err-expression-in-OpenParen.field-0.0 c.from_residual-in_err-expression-in-OpenParen.ensures.0 c.from_residual-in_err-expression-in-OpenParen.ensures.1
+    stops-by (rules.primary e (mark_word c.args.mark ∷ left c.args.reader.now)) (left c.expression.new.reader) (stack c.args.machine.now)
+    (stack c.expression.new.machine) c.from_residual-in_err-expression-in-OpenParen.result c.in_err-expression-in-OpenParen.field-0.0
+    c.from_residual-in_err-expression-in-OpenParen.ensures.0 c.from_residual-in_err-expression-in-OpenParen.ensures.1
     (λ stop. paren-none e c.args.mark (left c.args.reader.now) c.in-OpenParen.is (c.in_err-expression-in-OpenParen.ensures.none (ap Err stop)))
 
 pub postfix-returns-in_err-primary : goal.postfix-returns-in_err-primary
 postfix-returns-in_err-primary t c =
     let e = rules.expression c.args.fuel in
     let ws = left c.args.reader.now in
-    stops-by (rules.postfix e ws) (left c.primary.new.reader) (stack c.args.machine.now) (stack c.primary.new.machine) c.from_residual.result c.in_err-primary.field-0.0 c.from_residual.ensures.0 c.from_residual.ensures.1
+    stops-by (rules.postfix e ws) (left c.primary.new.reader) (stack c.args.machine.now) (stack c.primary.new.machine) c.from_residual.result
+    c.in_err-primary.field-0.0 c.from_residual.ensures.0 c.from_residual.ensures.1
     (λ stop. postfix-none e ws (c.in_err-primary.ensures.none (ap Err stop)))
 
 pub postfix-returns : goal.postfix-returns
@@ -535,7 +575,8 @@ postfix-returns t c =
     let start = stack c.args.machine.now in
     let after = stack c.primary.new.machine in
     puts-ok (rules.postfix e ws) rest start after tt
-    (postfix-alone e ws rest (top after) (c.in_ok-primary.ensures.ok c.in_ok-primary.field-0 refl) (c.has_suffix.ensures.dot c.if-has_suffix.false) (c.has_suffix.ensures.bracket c.if-has_suffix.false))
+    (postfix-alone e ws rest (top after) (c.in_ok-primary.ensures.ok c.in_ok-primary.field-0 refl) (c.has_suffix.ensures.dot c.if-has_suffix.false)
+    (c.has_suffix.ensures.bracket c.if-has_suffix.false))
     (c.in_ok-primary.ensures.on c.in_ok-primary.field-0 refl)
 
 pub several-returns-in_err-element : goal.several-returns-in_err-element
@@ -545,15 +586,18 @@ several-returns-in_err-element t c =
     let start = stack c.args.machine.now in
     let w = extended (top start) (rules.several e (length ws) ws) in
     let before = stack c.loop-turns.machine in
-    stops-by w (left c.element.new.reader) (below start) (stack c.element.new.machine) c.from_residual.result c.in_err-element.field-0.0 c.from_residual.ensures.0 c.from_residual.ensures.1
-    (λ stop. several-valueless e w c.loop-turns.turns before (left c.loop-turns.reader) c.loop-turns.invariant.read c.loop-turns-test.true (c.in_err-element.ensures.none (ap Err stop)))
+    stops-by w (left c.element.new.reader) (below start) (stack c.element.new.machine) c.from_residual.result c.in_err-element.field-0.0
+    c.from_residual.ensures.0 c.from_residual.ensures.1
+    (λ stop. several-valueless e w c.loop-turns.turns before (left c.loop-turns.reader) c.loop-turns.invariant.read c.loop-turns-test.true
+    (c.in_err-element.ensures.none (ap Err stop)))
 
 pub suffixes-returns-in_err-push : goal.suffixes-returns-in_err-push
 suffixes-returns-in_err-push t c =
     let e = rules.expression c.args.fuel in
     let ws = left c.args.reader.now in
     let start = stack c.args.machine.now in
-    stops-full (rules.suffixes e (length ws) (top start) ws) (left c.expect.new.self) (below start) (stack c.push.new.self) c.from_residual-in_err-push.result c.from_residual-in_err-push.ensures.0 c.from_residual-in_err-push.ensures.1
+    stops-full (rules.suffixes e (length ws) (top start) ws) (left c.expect.new.self) (below start) (stack c.push.new.self) c.from_residual-in_err-push.result
+    c.from_residual-in_err-push.ensures.0 c.from_residual-in_err-push.ensures.1
 
 pub marked-returns-in_ok-expression-in-OpenParen : goal.marked-returns-in_ok-expression-in-OpenParen
 marked-returns-in_ok-expression-in-OpenParen t c =
@@ -563,7 +607,8 @@ marked-returns-in_ok-expression-in-OpenParen t c =
     let read = c.in_ok-expression-in-OpenParen.ensures in
     let found = read.ok c.in_ok-expression-in-OpenParen.field-0 refl in
     puts-expected (rules.primary e (mark_word c.args.mark ∷ left c.args.reader.now)) (left c.expect.new.self) (stack c.args.machine.now) inside c.expect.result
-    (λ done is. paren-closed e c.args.mark ws c.in-OpenParen.is (top inside) (left c.expression.new.reader) found (left c.expect.new.self) (c.expect.ensures.ok done is))
+    (λ done is. paren-closed e c.args.mark ws c.in-OpenParen.is (top inside) (left c.expression.new.reader) found (left c.expect.new.self)
+    (c.expect.ensures.ok done is))
     (read.on c.in_ok-expression-in-OpenParen.field-0 refl)
     (λ stop is. paren-broken e c.args.mark ws c.in-OpenParen.is (top inside) (left c.expression.new.reader) found (c.expect.ensures.none stop is))
 

@@ -24,12 +24,14 @@ loop-i-preserved c =
     let next = c.match-turn_of.room in
     let at = stands c.args.tokens.now c.loop-i.i c.mark-mark.result c.mark-mark.ensures in
     let more = drop (c.loop-i.i + 1) (words c.args.tokens.now) in
-    let here : nests_deeper 130 room (at.here ∷ more) ≡ nests_too_deep (words c.args.tokens.now) = sym (ap (nests_deeper 130 room) at.behind) ∙ c.loop-i.invariant.rest in
+    let here : nests_deeper 130 room (at.here ∷ more) ≡ nests_too_deep (words c.args.tokens.now) =
+    sym (ap (nests_deeper 130 room) at.behind) ∙ c.loop-i.invariant.rest in
     elim c.match-turn_of.branch [
       | in-Opens+else-room-eq0 b ↦
           let turned = subst (λ t. IsTurn t at.here) b.in-Opens.is (c.turn_of.ensures at.here at.marked) in
           record {
-            rest = sym (opened-next 130 room at.here more 1 0 turned.0 turned.1 next (omega arith) (omega arith) (omega (arith, b.if-room-eq0.false, b.room-is))) ∙ here;
+            rest = sym (opened-next 130 room at.here more 1 0 turned.0 turned.1 next (omega arith) (omega arith)
+                (omega (arith, b.if-room-eq0.false, b.room-is))) ∙ here;
             few = omega (arith, b.room-is, c.loop-i.invariant.few);
           }
       | in-Closes b ↦

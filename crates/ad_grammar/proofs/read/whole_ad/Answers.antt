@@ -10,7 +10,8 @@ pub returns-in_err-definitions : goal.returns-in_err-definitions
 returns-in_err-definitions c =
     let old = left c.args.reader.now in
     let ws = left c.expect.new.self in
-    is_read-by (parsed_ad old) c.from_residual-in_err-definitions.result c.in_err-definitions.field-0.0 c.from_residual-in_err-definitions.ensures.0 c.from_residual-in_err-definitions.ensures.1
+    is_read-by (parsed_ad old) c.from_residual-in_err-definitions.result c.in_err-definitions.field-0.0 c.from_residual-in_err-definitions.ensures.0
+    c.from_residual-in_err-definitions.ensures.1
     (λ stop. ad-none ws (c.count-fuel.result + 1) (ap (λ n. n + 1) c.count-fuel.ensures.value) old (c.in_ok-expect.ensures.ok _ refl)
     (stack c.in_ok-machine.machine) c.in_ok-machine.ensures (c.in_err-definitions.ensures.none (ap Err stop)))
 

@@ -17,7 +17,8 @@ returns-then-count-gt0 c =
     let ws = left c.args.reader.now in
     let read = c.in_ok-expression.ensures in
     is_read-none (parsed_expr ws) stops.Grammar
-    (expression-more ws (c.count-fuel.result + 1) (ap (λ n. n + 1) c.count-fuel.ensures.value) (top (stack c.expression.new.machine)) (left c.expression.new.reader)
+    (expression-more ws (c.count-fuel.result + 1) (ap (λ n. n + 1) c.count-fuel.ensures.value) (top (stack c.expression.new.machine))
+    (left c.expression.new.reader)
     (read.ok c.in_ok-expression.field-0 refl) (omega (arith, c.count.ensures.value, c.if-count-gt0.true)))
 
 pub returns : goal.returns
@@ -25,6 +26,7 @@ returns c =
     let ws = left c.args.reader.now in
     let read = c.in_ok-expression.ensures in
     is_read-ok (parsed_expr ws) c.expression.new.machine
-    (expression-all ws (c.count-fuel.result + 1) (ap (λ n. n + 1) c.count-fuel.ensures.value) (top (stack c.expression.new.machine)) (left c.expression.new.reader)
+    (expression-all ws (c.count-fuel.result + 1) (ap (λ n. n + 1) c.count-fuel.ensures.value) (top (stack c.expression.new.machine))
+    (left c.expression.new.reader)
     (read.ok c.in_ok-expression.field-0 refl) (omega (arith, c.count.ensures.value, c.if-count-gt0.false)))
     (read.on c.in_ok-expression.field-0 refl ∙ c.of_expression-machine.ensures)

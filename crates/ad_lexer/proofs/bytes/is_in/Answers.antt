@@ -11,4 +11,5 @@ pub returns-in-Word : goal.returns-in-Word
 returns-in-Word c = rw c.in-Word.is (agree_below_at (λ b. slice_index_or WORD_BYTES b false) is_word_byte 256 c.args.byte refl (omega (arith, c.ranges.byte)))
 
 pub returns-in-Plain : goal.returns-in-Plain
-returns-in-Plain c = rw c.in-Plain.is (agree_below_at (λ b. slice_index_or PLAIN_BYTES b false) (is_in Plain) 256 c.args.byte refl (omega (arith, c.ranges.byte)))
+returns-in-Plain c =
+    rw c.in-Plain.is (agree_below_at (λ b. slice_index_or PLAIN_BYTES b false) (is_in Plain) 256 c.args.byte refl (omega (arith, c.ranges.byte)))

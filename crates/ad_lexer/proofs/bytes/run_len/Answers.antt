@@ -9,13 +9,17 @@ use Rattle.ad_lexer.proofs.bytes.run_len.Goals as goal
 pub returns-then-found-ne0-clause-value : goal.returns-then-found-ne0-clause-value
 returns-then-found-ne0-clause-value c =
     let found = c.stops-found in
-    let run = run_until (is_in c.args.class) c.args.text.now c.loop-len.len (omega arith) (omega (arith, found.ensures)) ∙ ap (count_trailing_zeros 64) (sym found.ensures) in
+    let run =
+    run_until (is_in c.args.class) c.args.text.now c.loop-len.len (omega arith) (omega (arith, found.ensures))
+    ∙ ap (count_trailing_zeros 64) (sym found.ensures) in
     omega (arith, run, c.loop-len.invariant.0)
 
 pub returns-then-found-ne0-clause-within : goal.returns-then-found-ne0-clause-within
 returns-then-found-ne0-clause-within c =
     let found = c.stops-found in
-    let run = run_until (is_in c.args.class) c.args.text.now c.loop-len.len (omega arith) (omega (arith, found.ensures)) ∙ ap (count_trailing_zeros 64) (sym found.ensures) in
+    let run =
+    run_until (is_in c.args.class) c.args.text.now c.loop-len.len (omega arith) (omega (arith, found.ensures))
+    ∙ ap (count_trailing_zeros 64) (sym found.ensures) in
     omega (arith, run, prefix_len-le-length (is_in c.args.class) (drop c.loop-len.len c.args.text.now), length-drop c.loop-len.len c.args.text.now)
 
 pub loop-len-preserved : goal.loop-len-preserved

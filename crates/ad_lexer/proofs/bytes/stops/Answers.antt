@@ -10,7 +10,9 @@ returns-in-Space c =
     let v = c.args.bytes in
     let long = c.fits-bytes.0 in
     rw c.in-Space.is (masked _ (is_outside class.Space) v _ long c.fits-bytes.1
-    (joined bit_and _ _ v (joined bit_and _ _ v (joined bit_and _ _ v (joined bit_and _ _ v (zip2_splat {Y = ℕ} _ v 16 32 long) (zip2_splat {Y = ℕ} _ v 16 9 long)) (zip2_splat {Y = ℕ} _ v 16 10 long)) (zip2_splat {Y = ℕ} _ v 16 13 long)) (zip2_splat {Y = ℕ} _ v 16 12 long)) refl)
+    (joined bit_and _ _ v (joined bit_and _ _ v (joined bit_and _ _ v
+    (joined bit_and _ _ v (zip2_splat {Y = ℕ} _ v 16 32 long) (zip2_splat {Y = ℕ} _ v 16 9 long)) (zip2_splat {Y = ℕ} _ v 16 10 long))
+    (zip2_splat {Y = ℕ} _ v 16 13 long)) (zip2_splat {Y = ℕ} _ v 16 12 long)) refl)
 
 pub returns-in-Word : goal.returns-in-Word
 returns-in-Word c =
@@ -49,4 +51,5 @@ returns-in-Plain c =
     let v = c.args.bytes in
     let long = c.fits-bytes.0 in
     rw c.in-Plain.is (masked _ (is_outside class.Plain) v _ long c.fits-bytes.1
-    (joined bit_or _ _ v (joined bit_or _ _ v (joined bit_or _ _ v (joined bit_or _ _ v (zip2_splat {Y = ℕ} _ v 16 34 long) (zip2_splat {Y = ℕ} _ v 16 39 long)) (zip2_splat {Y = ℕ} _ v 16 92 long)) (zip2_splat {Y = ℕ} _ v 16 10 long)) (zip2_splat {Y = ℕ} _ v 16 0 long)) refl)
+    (joined bit_or _ _ v (joined bit_or _ _ v (joined bit_or _ _ v (joined bit_or _ _ v (zip2_splat {Y = ℕ} _ v 16 34 long) (zip2_splat {Y = ℕ} _ v 16 39 long))
+    (zip2_splat {Y = ℕ} _ v 16 92 long)) (zip2_splat {Y = ℕ} _ v 16 10 long)) (zip2_splat {Y = ℕ} _ v 16 0 long)) refl)

@@ -10,4 +10,5 @@ pub returns-then-not-has_value : goal.returns-then-not-has_value
 returns-then-not-has_value c =
     let number : List ℕ = c.args.number.now in
     let whole : c.front-whole.result.now ≡ whole_digits number = c.front-whole.ensures ∙ ap (λ (n : ℕ). take n number) c.run_len-len.ensures.value in
-    too_many number (ap (λ (l : List ℕ). list_all (λ c. is_digit c 10) l && nat_lt (digits_value 10 l) (2 ^ 63)) (sym whole) ∙ sym c.has_value.ensures ∙ c.if-not-has_value.true)
+    too_many number (ap (λ (l : List ℕ). list_all (λ c. is_digit c 10) l && nat_lt (digits_value 10 l) (2 ^ 63)) (sym whole) ∙ sym c.has_value.ensures
+    ∙ c.if-not-has_value.true)

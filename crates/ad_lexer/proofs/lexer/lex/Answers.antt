@@ -12,4 +12,6 @@ returns-in-Ok-clause-fault c = answers_fault c.args.text.now c.divide.result c.d
 
 pub returns-in-Err-clause-fault : goal.returns-in-Err-clause-fault
 returns-in-Err-clause-fault c =
-    answers_fault c.args.text.now (Err c.fault_at.result) (subst (λ f. Answers c.args.text.now (Err f)) (sym c.fault_at.ensures) (inl (refl, c.in-Err.ensures.cases.0, subst (λ n. IsValidUpTo c.args.text.now n) (sym c.valid_up_to.ensures) c.in-Err.ensures.cases.1)))
+    answers_fault c.args.text.now (Err c.fault_at.result)
+    (subst (λ f. Answers c.args.text.now (Err f)) (sym c.fault_at.ensures)
+    (inl (refl, c.in-Err.ensures.cases.0, subst (λ n. IsValidUpTo c.args.text.now n) (sym c.valid_up_to.ensures) c.in-Err.ensures.cases.1)))

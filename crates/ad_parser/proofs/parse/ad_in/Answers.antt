@@ -10,7 +10,8 @@ pub returns-in_err-machine : goal.returns-in_err-machine
 returns-in_err-machine c =
     let text = c.args.text.now in
     let shallow = c.in_ok-reader.ensures.ok in
-    stops_at IsRoot frames_of_ad text (AnswersAd text) (λ fault is. is) c.in_err-machine.field-0.0 c.from_residual-in_err-machine.result c.from_residual-in_err-machine.ensures.0 c.from_residual-in_err-machine.ensures.1
+    stops_at IsRoot frames_of_ad text (AnswersAd text) (λ fault is. is) c.in_err-machine.field-0.0 c.from_residual-in_err-machine.result
+    c.from_residual-in_err-machine.ensures.0 c.from_residual-in_err-machine.ensures.1
     (λ grammar. no-ad text (left c.in_ok-reader.reader) shallow (c.in_err-machine.ensures.none (ap Err grammar)))
 
 pub returns-in_err-check : goal.returns-in_err-check
@@ -18,7 +19,8 @@ returns-in_err-check c =
     let text = c.args.text.now in
     let x = top (stack c.in_ok-machine.machine) in
     let spells = ad-spells text (left c.in_ok-reader.reader) c.in_ok-reader.ensures.ok x (c.in_ok-machine.ensures.ok c.in_ok-machine.machine refl) in
-    hands_on IsRoot frames_of_ad text (AnswersAd text) (λ fault is. is) c.in_err-check.field-0.0 c.from_residual-in_err-check.result c.from_residual-in_err-check.ensures.0 c.from_residual-in_err-check.ensures.1
+    hands_on IsRoot frames_of_ad text (AnswersAd text) (λ fault is. is) c.in_err-check.field-0.0 c.from_residual-in_err-check.result
+    c.from_residual-in_err-check.ensures.0 c.from_residual-in_err-check.ensures.1
     (checked-fault IsRoot frames_of_ad text x spells 0 (omega arith) c.in_err-check.field-0.0 c.in_err-check.ensures)
 
 pub returns : goal.returns

@@ -11,4 +11,5 @@ abbrev pub decreases-write_values : goal.decreases-write_values
 decreases-write_values l = 2 * weights_of (plains_of (plains l.values.now)) + 1
 
 abbrev pub invariant-write_values-loop-i : goal.invariant-write_values-loop-i
-invariant-write_values-loop-i l = l.out.items ++ texts_behind (plains_of (drop l.i (plains l.values))) ≡ l.initial.out.items ++ texts_behind (plains_of (drop 1 (plains l.values)))
+invariant-write_values-loop-i l =
+    l.out.items ++ texts_behind (plains_of (drop l.i (plains l.values))) ≡ l.initial.out.items ++ texts_behind (plains_of (drop 1 (plains l.values)))

@@ -11,8 +11,11 @@ pub loop-k-preserved : goal.loop-k-preserved
 loop-k-preserved c =
     let here : List (List ℕ × Tree) = attributes_at (ad_frames c.args.a.now) c.args.frame in
     let there : List (List ℕ × Tree) = attributes_at (ad_frames c.args.b.now) c.args.frame in
-    let same_name : c.name.result.now ≡ c.name-in-loop-k.result.now = (bytes_decides c.name.result.now c.name-in-loop-k.result.now).0 (not-false _ (sym c.ne.ensures ∙ c.if-ne.false)) in
-    same-more here there c.loop-k.k (c.name.result.now, tree c.expr.result.now) (c.name-in-loop-k.result.now, tree c.expr-in-loop-k.result.now) c.loop-k.invariant
+    let same_name : c.name.result.now ≡ c.name-in-loop-k.result.now =
+    (bytes_decides c.name.result.now c.name-in-loop-k.result.now).0 (not-false _ (sym c.ne.ensures ∙ c.if-ne.false)) in
+    same-more here there c.loop-k.k (c.name.result.now, tree c.expr.result.now) (c.name-in-loop-k.result.now, tree c.expr-in-loop-k.result.now)
+    c.loop-k.invariant
     (attribute-at here c.loop-k.k c.name.result.now (tree c.expr.result.now) c.name.ensures c.expr.ensures)
     (attribute-at there c.loop-k.k c.name-in-loop-k.result.now (tree c.expr-in-loop-k.result.now) c.name-in-loop-k.ensures c.expr-in-loop-k.ensures)
-    (same-attribute c.name.result.now c.name-in-loop-k.result.now (tree c.expr.result.now) (tree c.expr-in-loop-k.result.now) same_name (c.if-not-same_expr.ensures.0 refl))
+    (same-attribute c.name.result.now c.name-in-loop-k.result.now (tree c.expr.result.now) (tree c.expr-in-loop-k.result.now) same_name
+    (c.if-not-same_expr.ensures.0 refl))

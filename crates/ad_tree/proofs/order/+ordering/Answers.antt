@@ -69,7 +69,10 @@ follow_parts-returns-in-Unary t c =
     if_some c.follow.result (λ after h. read-placed (inside (draft_frames c.args.draft.now) c.args.turns) is.read is.read (one-placed h)) c.follow.ensures
 
 pub follow_parts-follow_two-requires : goal.follow_parts-follow_two-requires
-follow_parts-follow_two-requires t c = (omega (arith, c.decreases, ap size (node_of_two c.in-Binary.a c.in-Binary.b c.in-Binary.is c.deref-in-Binary.ensures c.deref-in-Binary-2.ensures).read), tt)
+follow_parts-follow_two-requires t c = (
+  omega (arith, c.decreases, ap size (node_of_two c.in-Binary.a c.in-Binary.b c.in-Binary.is c.deref-in-Binary.ensures c.deref-in-Binary-2.ensures).read),
+  tt,
+)
 
 pub follow_parts-returns-in-Binary : goal.follow_parts-returns-in-Binary
 follow_parts-returns-in-Binary t c =
@@ -82,7 +85,8 @@ follow_parts-follow_all-requires-in-And t c = (omega (arith, c.decreases, ap siz
 pub follow_parts-returns-in-And : goal.follow_parts-returns-in-And
 follow_parts-returns-in-And t c =
     let is = node_of_list c.in-And.list c.in-And.is in
-    if_some c.follow_all-in-And.result (λ after h. read-placed (inside (draft_frames c.args.draft.now) c.args.turns) is.read is.read h) c.follow_all-in-And.ensures
+    if_some c.follow_all-in-And.result (λ after h. read-placed (inside (draft_frames c.args.draft.now) c.args.turns) is.read is.read h)
+    c.follow_all-in-And.ensures
 
 pub follow_parts-follow_all-requires : goal.follow_parts-follow_all-requires
 follow_parts-follow_all-requires t c = (omega (arith, c.decreases, ap size (read-Call c.in-Call.field-0 c.in-Call.list c.in-Call.is c.deref.ensures)), tt)
@@ -93,7 +97,15 @@ follow_parts-returns-in-Call t c =
     if_some c.follow_all.result (λ after h. read-placed (inside (draft_frames c.args.draft.now) c.args.turns) is is h) c.follow_all.ensures
 
 pub follow_parts-follow_three-requires : goal.follow_parts-follow_three-requires
-follow_parts-follow_three-requires t c = (omega (arith, c.decreases, ap size (read-Cond c.in-Cond.a c.in-Cond.b c.in-Cond.c c.in-Cond.is c.deref-in-Cond.ensures c.deref-in-Cond-2.ensures c.deref-in-Cond-3.ensures)), tt)
+follow_parts-follow_three-requires t c = (
+  omega (
+    arith,
+    c.decreases,
+    ap size (read-Cond c.in-Cond.a c.in-Cond.b c.in-Cond.c c.in-Cond.is c.deref-in-Cond.ensures c.deref-in-Cond-2.ensures
+        c.deref-in-Cond-3.ensures),
+  ),
+  tt,
+)
 
 pub follow_parts-returns-in-Cond : goal.follow_parts-returns-in-Cond
 follow_parts-returns-in-Cond t c =

@@ -17,7 +17,8 @@ abbrev pub decreases-follow_two : goal.decreases-follow_two
 decreases-follow_two l = levels l.turns (draft_frames l.draft.now) + 4 * (size (tree l.a.now) + size (tree l.b.now)) + 2
 
 abbrev pub decreases-follow_three : goal.decreases-follow_three
-decreases-follow_three l = levels l.turns (draft_frames l.draft.now) + 4 * (size (tree l.exprs.0.now) + (size (tree l.exprs.1.now) + size (tree l.exprs.2.now))) + 3
+decreases-follow_three l =
+    levels l.turns (draft_frames l.draft.now) + 4 * (size (tree l.exprs.0.now) + (size (tree l.exprs.1.now) + size (tree l.exprs.2.now))) + 3
 
 abbrev pub decreases-follow_all : goal.decreases-follow_all
 decreases-follow_all l = levels l.turns (draft_frames l.draft.now) + 4 * size_all (pack (trees l.list.now)) + 2

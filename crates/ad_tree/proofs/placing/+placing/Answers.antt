@@ -9,7 +9,8 @@ use Rattle.ad_tree.specs.Draft.{draft_frames}
 use Rattle.ad_tree.proofs.Measures.{attributes_size-at, weight-at, levels-down}
 use Rattle.ad_tree.proofs.PlacedLemmas.{next-placed, none-placed, one-placed, new-defined, longer-placed, read-placed, frame_read-placed}
 use Rattle.ad_tree.proofs.ReadLemmas.{read-Unary, read-Binary, read-Cond, read-Select, read-Subscript, read-Call}
-use Rattle.ad_tree.proofs.TreeLemmas.{size-at, tree-Literal, tree-Name, tree-Unary, tree-Binary, tree-And, tree-Or, tree-Cond, tree-Select, tree-Subscript, tree-Call, tree-List, tree-Frame}
+use Rattle.ad_tree.proofs.TreeLemmas.{size-at, tree-Literal, tree-Name, tree-Unary, tree-Binary, tree-And, tree-Or, tree-Cond, tree-Select, tree-Subscript}
+use Rattle.ad_tree.proofs.TreeLemmas.{tree-Call, tree-List, tree-Frame}
 use Rattle.ad_tree.proofs.WalkLemmas.{list-placed, defs-defined, closed-placed, missing-placed, new-within, frame_opened}
 use Rattle.ad_tree.proofs.placing.+placing.Goals as goal
 
@@ -53,7 +54,15 @@ place-returns-in_ok-place_boxed-in-Unary t c =
     (one-placed c.in_ok-place_boxed-in-Unary.ensures)
 
 pub place-place_two-requires : goal.place-place_two-requires
-place-place_two-requires t c = (omega (arith, c.decreases, ap size (read-Binary c.in-Binary.op c.in-Binary.a c.in-Binary.b c.in-Binary.is c.deref-in-Binary.ensures c.deref-in-Binary-2.ensures)), tt)
+place-place_two-requires t c = (
+  omega (
+    arith,
+    c.decreases,
+    ap size (read-Binary c.in-Binary.op c.in-Binary.a c.in-Binary.b c.in-Binary.is c.deref-in-Binary.ensures
+        c.deref-in-Binary-2.ensures),
+  ),
+  tt,
+)
 
 pub place-returns-in_ok-a-in-Binary : goal.place-returns-in_ok-a-in-Binary
 place-returns-in_ok-a-in-Binary t c =
@@ -93,7 +102,15 @@ place-returns-in_ok-place_all-in-List t c =
     (c.in_ok-place_all-in-List.ensures)
 
 pub place-place_three-requires : goal.place-place_three-requires
-place-place_three-requires t c = (omega (arith, c.decreases, ap size (read-Cond c.in-Cond.a c.in-Cond.b c.in-Cond.c c.in-Cond.is c.deref-in-Cond.ensures c.deref-in-Cond-2.ensures c.deref-in-Cond-3.ensures)), tt)
+place-place_three-requires t c = (
+  omega (
+    arith,
+    c.decreases,
+    ap size (read-Cond c.in-Cond.a c.in-Cond.b c.in-Cond.c c.in-Cond.is c.deref-in-Cond.ensures c.deref-in-Cond-2.ensures
+        c.deref-in-Cond-3.ensures),
+  ),
+  tt,
+)
 
 pub place-returns-in_ok-a-in-Cond : goal.place-returns-in_ok-a-in-Cond
 place-returns-in_ok-a-in-Cond t c =
@@ -103,17 +120,27 @@ place-returns-in_ok-a-in-Cond t c =
     (c.in_ok-a-in-Cond.ensures)
 
 pub place-place_boxed-requires-in-Select : goal.place-place_boxed-requires-in-Select
-place-place_boxed-requires-in-Select t c = (omega (arith, c.decreases, ap size (read-Select c.in-Select.a c.in-Select.name c.in-Select.is c.deref-in-Select.ensures)), tt)
+place-place_boxed-requires-in-Select t c =
+    (omega (arith, c.decreases, ap size (read-Select c.in-Select.a c.in-Select.name c.in-Select.is c.deref-in-Select.ensures)), tt)
 
 pub place-returns-in_ok-copy-in-Select : goal.place-returns-in_ok-copy-in-Select
 place-returns-in_ok-copy-in-Select t c =
     read-placed (inside (draft_frames c.args.draft.now) c.args.turns)
     (read-Select c.in-Select.a c.in-Select.name c.in-Select.is c.deref-in-Select.ensures)
-    (tree-Select c.in_ok-a-in-Select.a c.in_ok-copy-in-Select.field-0 ∙ ap (λ n. node (select n) (one (tree c.in_ok-a-in-Select.a.value))) c.in_ok-copy-in-Select.ensures.text)
+    (tree-Select c.in_ok-a-in-Select.a c.in_ok-copy-in-Select.field-0
+    ∙ ap (λ n. node (select n) (one (tree c.in_ok-a-in-Select.a.value))) c.in_ok-copy-in-Select.ensures.text)
     (one-placed c.in_ok-a-in-Select.ensures)
 
 pub place-place_two-requires-in-Subscript : goal.place-place_two-requires-in-Subscript
-place-place_two-requires-in-Subscript t c = (omega (arith, c.decreases, ap size (read-Subscript c.in-Subscript.a c.in-Subscript.b c.in-Subscript.is c.deref-in-Subscript.ensures c.deref-in-Subscript-2.ensures)), tt)
+place-place_two-requires-in-Subscript t c = (
+  omega (
+    arith,
+    c.decreases,
+    ap size (read-Subscript c.in-Subscript.a c.in-Subscript.b c.in-Subscript.is c.deref-in-Subscript.ensures
+        c.deref-in-Subscript-2.ensures),
+  ),
+  tt,
+)
 
 pub place-returns-in_ok-a-in-Subscript : goal.place-returns-in_ok-a-in-Subscript
 place-returns-in_ok-a-in-Subscript t c =

@@ -21,7 +21,8 @@ abbrev pub decreases-place_two : goal.decreases-place_two
 decreases-place_two l = levels l.turns (draft_frames l.draft.now) + 4 * (size (tree l.a.now) + size (tree l.b.now)) + 2
 
 abbrev pub decreases-place_three : goal.decreases-place_three
-decreases-place_three l = levels l.turns (draft_frames l.draft.now) + 4 * (size (tree l.exprs.0.now) + (size (tree l.exprs.1.now) + size (tree l.exprs.2.now))) + 3
+decreases-place_three l =
+    levels l.turns (draft_frames l.draft.now) + 4 * (size (tree l.exprs.0.now) + (size (tree l.exprs.1.now) + size (tree l.exprs.2.now))) + 3
 
 abbrev pub decreases-place_all : goal.decreases-place_all
 decreases-place_all l = levels l.turns (draft_frames l.draft.now) + 4 * size_all (pack (trees l.list.now)) + 1

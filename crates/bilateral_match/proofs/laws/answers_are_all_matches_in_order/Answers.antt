@@ -9,8 +9,13 @@ pub returns : goal.returns
 returns c =
     let m = matches_from c.args.moment (ad_frames c.args.request.now) 0 in
     record {
-      are = λ ads. record { all = arranged-permutation (m ads); ordered = sorted-from (answers c.args.moment (ad_frames c.args.request.now) ads) (arranged-in-order (m ads)) };
+      are = λ ads. record {
+        all =
+            arranged-permutation (m ads);
+        ordered = sorted-from (answers c.args.moment (ad_frames c.args.request.now) ads) (arranged-in-order (m ads));
+      };
       alone = λ ads others h.
           one-order others (answers c.args.moment (ad_frames c.args.request.now) ads) (in-order-from others h.ordered) (arranged-in-order (m ads))
-          (λ f. sum_by-IsPermutation f (m ads) others h.all ∙ sym (sum_by-IsPermutation f (m ads) (answers c.args.moment (ad_frames c.args.request.now) ads) (arranged-permutation (m ads))));
+          (λ f. sum_by-IsPermutation f (m ads) others h.all ∙ sym (sum_by-IsPermutation f (m ads) (answers c.args.moment (ad_frames c.args.request.now) ads)
+          (arranged-permutation (m ads))));
     }

@@ -16,7 +16,8 @@ invariant-loop-place g l =
       found : l.found.items ≡ filter_map (member_at pool (ad_frames l.request.ad) l.number) (take l.place-index l.place-items);
       evaluations : l.tops ≤ l.initial.tops + sum_by (evaluations_for pool (ad_frames l.request.ad)) (take l.place-index l.place-items);
       entries : l.entry ≤ l.initial.entry + sum_by (attributes_for pool (ad_frames l.request.ad)) (take l.place-index l.place-items);
-      ratio : IsSmall (ad_frames l.request.ad) → AreSmallAds (stock_of l.store).ads → AreSmallHolders (g.H.Holdings.holding l.held) → l.entry + 9216 * l.initial.tops ≤ l.initial.entry + 9216 * l.tops;
+      ratio : IsSmall (ad_frames l.request.ad) → AreSmallAds (stock_of l.store).ads → AreSmallHolders (g.H.Holdings.holding l.held)
+          → l.entry + 9216 * l.initial.tops ≤ l.initial.entry + 9216 * l.tops;
       looks : l.touch ≤ l.initial.touch + 9 * l.place-index;
       ranks : AreRanks l.moment (stock_of l.store).ads (rank_expr (ad_frames l.request.ad)) l.ranking.ranks.items;
     }

@@ -12,22 +12,42 @@ use Rattle.bilateral_match.proofs.shortlists.shortlist.Goals as goal
 
 pub returns-in_err-found-clause-evaluations : goal.returns-in_err-found-clause-evaluations
 returns-in_err-found-clause-evaluations g c =
-    omega (arith, c.members_at.ensures.evaluations, open-sum (pool_of c.args.moment (stock_of c.args.store.now) (g.H.Holdings.is_offered c.args.held.now) (g.H.Holdings.holding c.args.held.now)) (ad_frames c.args.request.now.ad) c.in_ok-places.places c.in_ok-places.ensures.places)
+    omega (
+      arith,
+      c.members_at.ensures.evaluations,
+      open-sum (pool_of c.args.moment (stock_of c.args.store.now) (g.H.Holdings.is_offered c.args.held.now)
+          (g.H.Holdings.holding c.args.held.now)) (ad_frames c.args.request.now.ad) c.in_ok-places.places c.in_ok-places.ensures.places,
+    )
 
 pub returns-in_err-found-clause-entries : goal.returns-in_err-found-clause-entries
 returns-in_err-found-clause-entries g c =
-    omega (arith, c.members_at.ensures.entries, entered-sum (pool_of c.args.moment (stock_of c.args.store.now) (g.H.Holdings.is_offered c.args.held.now) (g.H.Holdings.holding c.args.held.now)) (ad_frames c.args.request.now.ad) c.in_ok-places.places c.in_ok-places.ensures.places)
+    omega (
+      arith,
+      c.members_at.ensures.entries,
+      entered-sum (pool_of c.args.moment (stock_of c.args.store.now) (g.H.Holdings.is_offered c.args.held.now)
+          (g.H.Holdings.holding c.args.held.now)) (ad_frames c.args.request.now.ad) c.in_ok-places.places c.in_ok-places.ensures.places,
+    )
 
 pub returns-in_err-found-clause-looks : goal.returns-in_err-found-clause-looks
 returns-in_err-found-clause-looks g c = omega (arith, c.members_at.ensures.looks, c.in_ok-places.ensures.places.few)
 
 pub returns-clause-evaluations : goal.returns-clause-evaluations
 returns-clause-evaluations g c =
-    omega (arith, c.members_at.ensures.evaluations, open-sum (pool_of c.args.moment (stock_of c.args.store.now) (g.H.Holdings.is_offered c.args.held.now) (g.H.Holdings.holding c.args.held.now)) (ad_frames c.args.request.now.ad) c.in_ok-places.places c.in_ok-places.ensures.places)
+    omega (
+      arith,
+      c.members_at.ensures.evaluations,
+      open-sum (pool_of c.args.moment (stock_of c.args.store.now) (g.H.Holdings.is_offered c.args.held.now)
+          (g.H.Holdings.holding c.args.held.now)) (ad_frames c.args.request.now.ad) c.in_ok-places.places c.in_ok-places.ensures.places,
+    )
 
 pub returns-clause-entries : goal.returns-clause-entries
 returns-clause-entries g c =
-    omega (arith, c.members_at.ensures.entries, entered-sum (pool_of c.args.moment (stock_of c.args.store.now) (g.H.Holdings.is_offered c.args.held.now) (g.H.Holdings.holding c.args.held.now)) (ad_frames c.args.request.now.ad) c.in_ok-places.places c.in_ok-places.ensures.places)
+    omega (
+      arith,
+      c.members_at.ensures.entries,
+      entered-sum (pool_of c.args.moment (stock_of c.args.store.now) (g.H.Holdings.is_offered c.args.held.now)
+          (g.H.Holdings.holding c.args.held.now)) (ad_frames c.args.request.now.ad) c.in_ok-places.places c.in_ok-places.ensures.places,
+    )
 
 pub returns-clause-looks : goal.returns-clause-looks
 returns-clause-looks g c = omega (arith, c.members_at.ensures.looks, c.in_ok-places.ensures.places.few)
@@ -35,7 +55,9 @@ returns-clause-looks g c = omega (arith, c.members_at.ensures.looks, c.in_ok-pla
 pub slots_in_order-requires : goal.slots_in_order-requires
 slots_in_order-requires g c =
     let stock = stock_of c.args.store.now in
-    let found = found-within (pool_of c.args.moment stock (g.H.Holdings.is_offered c.args.held.now) (g.H.Holdings.holding c.args.held.now)) (ad_frames c.args.request.now.ad) c.args.number (length stock.slots) c.in_ok-places.places c.in_ok-places.ensures.held in
+    let found =
+    found-within (pool_of c.args.moment stock (g.H.Holdings.is_offered c.args.held.now) (g.H.Holdings.holding c.args.held.now))
+    (ad_frames c.args.request.now.ad) c.args.number (length stock.slots) c.in_ok-places.places c.in_ok-places.ensures.held in
     subst (λ (ms : List Member). All (λ (m : Member). m.place < length stock.slots) ms) (sym c.in_ok-found.ensures.found) found
 
 pub returns-clause-best : goal.returns-clause-best

@@ -10,6 +10,9 @@ pub loop-member-preserved : goal.loop-member-preserved
 loop-member-preserved c =
     let stock = stock_of c.args.store.now in
     record {
-      slots = slots-more (λ (m : Member). slot_at stock m.place) c.args.members.now c.loop-member.member-index _ c.loop-member.slots c.push.new.self c.slot_of.result c.loop-member-test.true c.loop-member.invariant.slots c.in_ok-push.ensures.ok c.slot_of.ensures.slot;
-      held = subst (All (Contains stock.slots)) (sym c.in_ok-push.ensures.ok) (All-push (Contains stock.slots) c.loop-member.slots c.slot_of.result c.loop-member.invariant.held c.slot_of.ensures.held);
+      slots =
+          slots-more (λ (m : Member). slot_at stock m.place) c.args.members.now c.loop-member.member-index _ c.loop-member.slots c.push.new.self
+          c.slot_of.result c.loop-member-test.true c.loop-member.invariant.slots c.in_ok-push.ensures.ok c.slot_of.ensures.slot;
+      held = subst (All (Contains stock.slots)) (sym c.in_ok-push.ensures.ok)
+          (All-push (Contains stock.slots) c.loop-member.slots c.slot_of.result c.loop-member.invariant.held c.slot_of.ensures.held);
     }

@@ -27,7 +27,8 @@ returns-in_err-rank-clause-entries g c =
 
 pub returns-in_err-rank-clause-ratio : goal.returns-in_err-rank-clause-ratio
 returns-in_err-rank-clause-ratio g c small_request small_ads =
-    c.ranked.ensures.ratio small_request (found-small (stock_of c.args.store.now).ads c.args.place (ad_frames c.look-ad.result.now) small_ads (c.look-ad.ensures.ad c.args.place c.at.ensures.place))
+    c.ranked.ensures.ratio small_request (found-small (stock_of c.args.store.now).ads c.args.place (ad_frames c.look-ad.result.now) small_ads
+    (c.look-ad.ensures.ad c.args.place c.at.ensures.place))
 
 pub returns-in_default-clause-evaluations : goal.returns-in_default-clause-evaluations
 returns-in_default-clause-evaluations g c =
@@ -47,7 +48,8 @@ returns-in_default-clause-entries g c =
 
 pub returns-in_default-clause-ratio : goal.returns-in_default-clause-ratio
 returns-in_default-clause-ratio g c small_request small_ads =
-    c.ranked.ensures.ratio small_request (found-small (stock_of c.args.store.now).ads c.args.place (ad_frames c.look-ad.result.now) small_ads (c.look-ad.ensures.ad c.args.place c.at.ensures.place))
+    c.ranked.ensures.ratio small_request (found-small (stock_of c.args.store.now).ads c.args.place (ad_frames c.look-ad.result.now) small_ads
+    (c.look-ad.ensures.ad c.args.place c.at.ensures.place))
 
 pub returns-clause-evaluations : goal.returns-clause-evaluations
 returns-clause-evaluations g c =
@@ -67,7 +69,8 @@ returns-clause-entries g c =
 
 pub returns-clause-ratio : goal.returns-clause-ratio
 returns-clause-ratio g c small_request small_ads =
-    c.ranked.ensures.ratio small_request (found-small (stock_of c.args.store.now).ads c.args.place (ad_frames c.look-ad.result.now) small_ads (c.look-ad.ensures.ad c.args.place c.at.ensures.place))
+    c.ranked.ensures.ratio small_request (found-small (stock_of c.args.store.now).ads c.args.place (ad_frames c.look-ad.result.now) small_ads
+    (c.look-ad.ensures.ad c.args.place c.at.ensures.place))
 
 pub returns-in_default-clause-found : goal.returns-in_default-clause-found
 returns-in_default-clause-found g c =
@@ -85,4 +88,5 @@ returns-clause-found g c =
     let there = c.look-ad.ensures.ad c.args.place c.at.ensures.place in
     let fits : SFits w128 c.in-Some.rank = search rules in
     let rank = to_z w128 (of_z w128 c.in-Some.rank) in
-    found-some ad c.args.moment request c.args.place (slice_get ads c.args.place) c.in_ok-rank.field-0 rank (record { place = c.args.place; rank = rank }) there c.in_ok-rank.ensures.rank (c.in-Some.is ∙ ap Some (sym (to_z-of_z w128 c.in-Some.rank fits))) refl
+    found-some ad c.args.moment request c.args.place (slice_get ads c.args.place) c.in_ok-rank.field-0 rank (record { place = c.args.place; rank = rank }) there
+    c.in_ok-rank.ensures.rank (c.in-Some.is ∙ ap Some (sym (to_z-of_z w128 c.in-Some.rank fits))) refl

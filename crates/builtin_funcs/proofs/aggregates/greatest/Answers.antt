@@ -9,7 +9,8 @@ use Rattle.builtin_funcs.proofs.aggregates.greatest.Goals as goal
 pub loop-i-preserved : goal.loop-i-preserved
 loop-i-preserved c =
     let ps = plains c.args.items.now in
-    ap (λ o. chosen_with int_max o (amounts_from c.args.decimals (c.loop-i.i + 1) ps)) (c.greater-greatest.ensures ∙ ap (with_number int_max c.loop-i.greatest) c.amount.ensures)
+    ap (λ o. chosen_with int_max o (amounts_from c.args.decimals (c.loop-i.i + 1) ps))
+    (c.greater-greatest.ensures ∙ ap (with_number int_max c.loop-i.greatest) c.amount.ensures)
     ∙ chosen_more c.args.decimals int_max ps c.loop-i.i _ c.loop-i.greatest _ c.at.ensures c.loop-i.invariant
 
 pub returns : goal.returns

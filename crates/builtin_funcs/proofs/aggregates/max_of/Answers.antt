@@ -7,4 +7,5 @@ pub returns-in-Some : goal.returns-in-Some
 returns-in-Some c = sym (c.in-Some.ensures greatest)
 
 pub returns-in-None : goal.returns-in-None
-returns-in-None c = c.greatest.ensures ∙ ap (λ decimals. row_in greatest decimals (plains c.args.items.now)) c.any_decimal.ensures ∙ sym (c.in-None.ensures greatest)
+returns-in-None c =
+    c.greatest.ensures ∙ ap (λ decimals. row_in greatest decimals (plains c.args.items.now)) c.any_decimal.ensures ∙ sym (c.in-None.ensures greatest)

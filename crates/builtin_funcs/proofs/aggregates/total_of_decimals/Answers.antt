@@ -17,4 +17,5 @@ loop-i-preserved c =
 
 pub returns : goal.returns
 returns c =
-    c.joined.ensures ∙ ap decimal_or_error (sum_whole true (plains c.args.items.now) c.loop-i.i _ _ _ c.len-i-end.ensures c.loop-i-test.false c.loop-i.invariant.0)
+    c.joined.ensures ∙ ap decimal_or_error (sum_whole true (plains c.args.items.now) c.loop-i.i _ _ _ c.len-i-end.ensures c.loop-i-test.false
+    c.loop-i.invariant.0)

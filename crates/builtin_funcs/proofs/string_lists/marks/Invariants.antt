@@ -4,4 +4,5 @@ use Rattle.builtin_funcs.proofs.string_lists.marks.Given as goal
 
 abbrev pub invariant-loop-delimiter : goal.invariant-loop-delimiter
 invariant-loop-delimiter l =
-    (length l.marks ≡ 256) × ((byte : ℕ) → (get_or l.marks byte false || list_any (λ d. eqb d byte) (drop l.delimiter-index l.delimiters)) ≡ list_any (λ d. eqb d byte) l.delimiters)
+    (length l.marks ≡ 256) × ((byte : ℕ)
+    → (get_or l.marks byte false || list_any (λ d. eqb d byte) (drop l.delimiter-index l.delimiters)) ≡ list_any (λ d. eqb d byte) l.delimiters)

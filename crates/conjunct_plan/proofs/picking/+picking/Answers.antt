@@ -37,7 +37,8 @@ pick_of_all-loop-left-preserved t c =
       there = omega (arith, here, c.count-many.ensures, c.if-left-many.false, c.loop-left.invariant.there);
       few = omega (arith, here, c.loop-left.invariant.few);
       same =
-          sym (at-second (conjuncts item) (left ts (i + 1)) c.loop-left.left (c.loop-left.left - c.count-many.result) (omega (arith, c.count-many.ensures, c.if-left-many.false)))
+          sym (at-second (conjuncts item) (left ts (i + 1)) c.loop-left.left (c.loop-left.left - c.count-many.result)
+          (omega (arith, c.count-many.ensures, c.if-left-many.false)))
           ∙ ap (λ xs. slice_get xs c.loop-left.left) (sym (left-here ts i item c.at-item.ensures))
           ∙ c.loop-left.invariant.same;
     }

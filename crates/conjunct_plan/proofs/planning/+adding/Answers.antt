@@ -13,6 +13,7 @@ add_all-add_tests-requires t c =
 
 pub add_all-loop-i-preserved : goal.add_all-loop-i-preserved
 add_all-loop-i-preserved t c =
-    added-behind (test_of (ad_frames c.args.ad.now) c.args.frame (labels_of c.args.ports.now)) (trees c.args.items.now) c.loop-i.i (tree c.at.result.now) c.at.ensures
+    added-behind (test_of (ad_frames c.args.ad.now) c.args.frame (labels_of c.args.ports.now)) (trees c.args.items.now) c.loop-i.i (tree c.at.result.now)
+    c.at.ensures
     _ _ c.in_ok-add_tests.ensures
     ∙ c.loop-i.invariant

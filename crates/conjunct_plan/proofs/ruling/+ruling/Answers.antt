@@ -20,7 +20,8 @@ verdict_on_all-returns-in-Against t c =
     let F : Tree → Option Test = test_of (ad_frames c.args.ad.now) c.args.frame (labels_of c.args.ports.now) in
     let D : Test → Bool = λ test. is_decided test (ad_frames c.args.other.now) c.args.at in
     let M : Tree → Bool = is_met_test (ad_frames c.args.ad.now) c.args.frame (labels_of c.args.ports.now) (ad_frames c.args.other.now) c.args.at in
-    sym (against-behind F D M (trees c.args.items.now) c.loop-i.i (tree c.at.result.now) c.at.ensures c.verdict_on.result c.loop-i.met c.verdict_on.ensures c.in-Against.is)
+    sym (against-behind F D M (trees c.args.items.now) c.loop-i.i (tree c.at.result.now) c.at.ensures c.verdict_on.result c.loop-i.met c.verdict_on.ensures
+    c.in-Against.is)
     ∙ c.loop-i.invariant
 
 pub verdict_on_all-loop-i-preserved : goal.verdict_on_all-loop-i-preserved
@@ -29,11 +30,14 @@ verdict_on_all-loop-i-preserved t c =
     let D : Test → Bool = λ test. is_decided test (ad_frames c.args.other.now) c.args.at in
     let M : Tree → Bool = is_met_test (ad_frames c.args.ad.now) c.args.frame (labels_of c.args.ports.now) (ad_frames c.args.other.now) c.args.at in
     elim c.match-verdict_on.branch [
-      | verdict_on_all-in-For b ↦ rw (b.met-is) (for-behind F D M (trees c.args.items.now) c.loop-i.i (tree c.at.result.now) c.at.ensures c.verdict_on.result c.loop-i.met c.verdict_on.ensures b.in-For.is ∙ c.loop-i.invariant)
-      | verdict_on_all-in-Open b ↦ rw (b.met-is) (open-behind F D M (trees c.args.items.now) c.loop-i.i (tree c.at.result.now) c.at.ensures c.verdict_on.result c.loop-i.met c.verdict_on.ensures b.in-Open.is ∙ c.loop-i.invariant)
+      | verdict_on_all-in-For b ↦ rw (b.met-is) (for-behind F D M (trees c.args.items.now) c.loop-i.i (tree c.at.result.now) c.at.ensures c.verdict_on.result
+          c.loop-i.met c.verdict_on.ensures b.in-For.is ∙ c.loop-i.invariant)
+      | verdict_on_all-in-Open b ↦ rw (b.met-is) (open-behind F D M (trees c.args.items.now) c.loop-i.i (tree c.at.result.now) c.at.ensures c.verdict_on.result
+          c.loop-i.met c.verdict_on.ensures b.in-Open.is ∙ c.loop-i.invariant)
     ]
 
 pub verdict_on-returns-in-Some : goal.verdict_on-returns-in-Some
 verdict_on-returns-in-Some t c =
     c.verdict_by.ensures
-    ∙ says-alone (ad_frames c.args.ad.now) c.args.frame (labels_of c.args.ports.now) (ad_frames c.args.other.now) c.args.at (test_seen c.in-Some.probe) (tree c.args.expr.now) (ap (λ o. option_map test_seen o) (sym c.in-Some.is) ∙ c.probe_of.ensures)
+    ∙ says-alone (ad_frames c.args.ad.now) c.args.frame (labels_of c.args.ports.now) (ad_frames c.args.other.now) c.args.at (test_seen c.in-Some.probe)
+    (tree c.args.expr.now) (ap (λ o. option_map test_seen o) (sym c.in-Some.is) ∙ c.probe_of.ensures)

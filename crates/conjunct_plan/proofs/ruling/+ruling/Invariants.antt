@@ -14,6 +14,7 @@ decreases-verdict_on l = 2 * size (tree l.expr.now)
 
 abbrev pub invariant-verdict_on_all-loop-i : goal.invariant-verdict_on_all-loop-i
 invariant-verdict_on_all-loop-i l =
-    verdict_by (list_any (λ test. is_decided test (ad_frames l.other) l.at) (filter_map (test_of (ad_frames l.ad) l.frame (labels_of l.ports)) (conjuncts_of_all (pack (drop l.i (trees l.items))))))
+    verdict_by (list_any (λ test. is_decided test (ad_frames l.other) l.at)
+    (filter_map (test_of (ad_frames l.ad) l.frame (labels_of l.ports)) (conjuncts_of_all (pack (drop l.i (trees l.items))))))
     (l.met && list_all (is_met_test (ad_frames l.ad) l.frame (labels_of l.ports) (ad_frames l.other) l.at) (conjuncts_of_all (pack (drop l.i (trees l.items)))))
     ≡ verdict_on (ad_frames l.ad) l.frame (labels_of l.ports) (ad_frames l.other) l.at (conjuncts_of_all (pack (trees l.items)))

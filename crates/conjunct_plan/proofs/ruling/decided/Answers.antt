@@ -8,11 +8,13 @@ use Rattle.conjunct_plan.proofs.ruling.decided.Goals as goal
 pub returns-in-Against : goal.returns-in-Against
 returns-in-Against c =
     let fs = ad_frames c.args.ad.now in
-    ruled-out c.verdict_by.result (is_decided (test_seen c.of.result) fs c.args.frame) (is_met (test_seen c.of.result) fs c.args.frame) c.verdict_by.ensures c.in-Against.is
+    ruled-out c.verdict_by.result (is_decided (test_seen c.of.result) fs c.args.frame) (is_met (test_seen c.of.result) fs c.args.frame) c.verdict_by.ensures
+    c.in-Against.is
     ∙ ap (λ test. is_decided test fs c.args.frame) c.of.ensures
 
 pub returns-in_default : goal.returns-in_default
 returns-in_default c =
     let fs = ad_frames c.args.ad.now in
-    not-ruled c.verdict_by.result (is_decided (test_seen c.of.result) fs c.args.frame) (is_met (test_seen c.of.result) fs c.args.frame) c.verdict_by.ensures c.in_default.not-Against
+    not-ruled c.verdict_by.result (is_decided (test_seen c.of.result) fs c.args.frame) (is_met (test_seen c.of.result) fs c.args.frame) c.verdict_by.ensures
+    c.in_default.not-Against
     ∙ ap (λ test. is_decided test fs c.args.frame) c.of.ensures

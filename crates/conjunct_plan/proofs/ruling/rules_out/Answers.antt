@@ -9,4 +9,5 @@ returns-in_default c =
     let fs = ad_frames c.args.ad.now in
     let other = ad_frames c.args.other.now in
     let labels = labels_of c.args.ports.now in
-    not-ruled c.verdict_of.result (rules_out fs c.args.frame labels other c.args.at) (is_side_met fs c.args.frame labels other c.args.at) c.verdict_of.ensures c.in_default.not-Against
+    not-ruled c.verdict_of.result (rules_out fs c.args.frame labels other c.args.at) (is_side_met fs c.args.frame labels other c.args.at) c.verdict_of.ensures
+    c.in_default.not-Against

@@ -26,7 +26,8 @@ pub with-world-requires : goal.with-world-requires
 with-world-requires g c =
     let slots = c.args.slots.now in
     let few = few-slots (ad_frames c.args.request.now.ad) c.args.request.now.ports (length slots) c.args.request.now.are_ports c.requires.fit in
-    room-for-last c.args.moment (stock_of c.args.store.now) c.args.request.now slots (world_of c.slots_world-before.result) few c.requires.some c.slots_world-before.ensures.world
+    room-for-last c.args.moment (stock_of c.args.store.now) c.args.request.now slots (world_of c.slots_world-before.result) few c.requires.some
+    c.slots_world-before.ensures.world
 
 pub open_sides-requires : goal.open_sides-requires
 open_sides-requires g c =
@@ -36,8 +37,12 @@ open_sides-requires g c =
     let last = length slots - 1 in
     let some = c.requires.some in
     let looked = ad-looked stock (get_or slots last 0) (ad_frames c.look-ad.result.now) (c.requires.stored last 0 (omega (arith, some))) c.look-ad.ensures.ad in
-    let world = pair-world c.args.moment stock request slots some last refl (world_of c.slots_world-before.result) (world_of c.with-world.result) (ad_frames c.look-ad.result.now) c.slots_world-before.ensures.world looked c.with-world.ensures in
-    let there = frame-there (ad_frames request.ad) request.ports (length (slots_world c.args.moment stock request slots).docked) request.are_ports request.ad.is_ad.root in
+    let world =
+    pair-world c.args.moment stock request slots some last refl (world_of c.slots_world-before.result) (world_of c.with-world.result)
+    (ad_frames c.look-ad.result.now) c.slots_world-before.ensures.world looked c.with-world.ensures in
+    let there =
+    frame-there (ad_frames request.ad) request.ports (length (slots_world c.args.moment stock request slots).docked) request.are_ports
+    request.ad.is_ad.root in
     let at = ap (λ (place : AdPlace). place.frame) (c.request_place.ensures ∙ ap request_side world) in
     omega (arith, at, there)
 
@@ -49,8 +54,12 @@ returns-in_default-clause-docked g c =
     let last = length slots - 1 in
     let some = c.requires.some in
     let looked = ad-looked stock (get_or slots last 0) (ad_frames c.look-ad.result.now) (c.requires.stored last 0 (omega (arith, some))) c.look-ad.ensures.ad in
-    let decided = pair-decided c.args.moment stock request slots some last refl (world_of c.slots_world-before.result) (world_of c.with-world.result) (ad_frames c.look-ad.result.now) c.slots_world-before.ensures.world looked c.with-world.ensures c.request_place.result c.request_place.ensures in
-    sym (none-docked c.args.moment stock request slots some (sym decided ∙ none-undecided (ad_frames request.ad) c.request_place.result.frame (labels_of request.ports) (ad_frames c.look-ad.result.now) (sym c.open_sides.ensures ∙ c.in_default.is)))
+    let decided =
+    pair-decided c.args.moment stock request slots some last refl (world_of c.slots_world-before.result) (world_of c.with-world.result)
+    (ad_frames c.look-ad.result.now) c.slots_world-before.ensures.world looked c.with-world.ensures c.request_place.result c.request_place.ensures in
+    sym (none-docked c.args.moment stock request slots some
+    (sym decided ∙ none-undecided (ad_frames request.ad) c.request_place.result.frame (labels_of request.ports) (ad_frames c.look-ad.result.now) (sym
+    c.open_sides.ensures ∙ c.in_default.is)))
 
 pub dock-requires-clause-left : goal.dock-requires-clause-left
 dock-requires-clause-left g c =
@@ -60,7 +69,9 @@ dock-requires-clause-left g c =
     let last = length slots - 1 in
     let some = c.requires.some in
     let looked = ad-looked stock (get_or slots last 0) (ad_frames c.look-ad.result.now) (c.requires.stored last 0 (omega (arith, some))) c.look-ad.ensures.ad in
-    let left = pair-open c.args.moment stock request slots some last refl (world_of c.slots_world-before.result) (world_of c.with-world.result) (ad_frames c.look-ad.result.now) c.slots_world-before.ensures.world looked c.with-world.ensures c.request_place.result c.request_place.ensures in
+    let left =
+    pair-open c.args.moment stock request slots some last refl (world_of c.slots_world-before.result) (world_of c.with-world.result)
+    (ad_frames c.look-ad.result.now) c.slots_world-before.ensures.world looked c.with-world.ensures c.request_place.result c.request_place.ensures in
     sym left ∙ sym c.open_sides.ensures ∙ c.in-Some.is
 
 pub returns-clause-docked : goal.returns-clause-docked
@@ -71,7 +82,9 @@ returns-clause-docked g c =
     let last = length slots - 1 in
     let some = c.requires.some in
     let looked = ad-looked stock (get_or slots last 0) (ad_frames c.look-ad.result.now) (c.requires.stored last 0 (omega (arith, some))) c.look-ad.ensures.ad in
-    let world = pair-world c.args.moment stock request slots some last refl (world_of c.slots_world-before.result) (world_of c.with-world.result) (ad_frames c.look-ad.result.now) c.slots_world-before.ensures.world looked c.with-world.ensures in
+    let world =
+    pair-world c.args.moment stock request slots some last refl (world_of c.slots_world-before.result) (world_of c.with-world.result)
+    (ad_frames c.look-ad.result.now) c.slots_world-before.ensures.world looked c.with-world.ensures in
     subst (λ (w : PlainWorld). IfOk c.dock.result (λ b. b ≡ is_docked w)) world c.dock.ensures.value
 
 pub returns-clause-evaluations : goal.returns-clause-evaluations
@@ -82,8 +95,12 @@ returns-clause-evaluations g c =
     let last = length slots - 1 in
     let some = c.requires.some in
     let looked = ad-looked stock (get_or slots last 0) (ad_frames c.look-ad.result.now) (c.requires.stored last 0 (omega (arith, some))) c.look-ad.ensures.ad in
-    let decided = pair-decided c.args.moment stock request slots some last refl (world_of c.slots_world-before.result) (world_of c.with-world.result) (ad_frames c.look-ad.result.now) c.slots_world-before.ensures.world looked c.with-world.ensures c.request_place.result c.request_place.ensures in
-    most-undecided (is_last_decided (slots_world c.args.moment stock request slots)) 2 c.args.tops.now c.dock.new.tops (sym decided ∙ some-undecided (ad_frames request.ad) c.request_place.result.frame (labels_of request.ports) (ad_frames c.look-ad.result.now) c.in-Some.sides (sym c.open_sides.ensures ∙ c.in-Some.is)) c.dock.ensures.evaluations
+    let decided =
+    pair-decided c.args.moment stock request slots some last refl (world_of c.slots_world-before.result) (world_of c.with-world.result)
+    (ad_frames c.look-ad.result.now) c.slots_world-before.ensures.world looked c.with-world.ensures c.request_place.result c.request_place.ensures in
+    most-undecided (is_last_decided (slots_world c.args.moment stock request slots)) 2 c.args.tops.now c.dock.new.tops
+    (sym decided ∙ some-undecided (ad_frames request.ad) c.request_place.result.frame (labels_of request.ports) (ad_frames
+    c.look-ad.result.now) c.in-Some.sides (sym c.open_sides.ensures ∙ c.in-Some.is)) c.dock.ensures.evaluations
 
 pub returns-clause-entries : goal.returns-clause-entries
 returns-clause-entries g c =
@@ -93,9 +110,15 @@ returns-clause-entries g c =
     let last = length slots - 1 in
     let some = c.requires.some in
     let looked = ad-looked stock (get_or slots last 0) (ad_frames c.look-ad.result.now) (c.requires.stored last 0 (omega (arith, some))) c.look-ad.ensures.ad in
-    let world = pair-world c.args.moment stock request slots some last refl (world_of c.slots_world-before.result) (world_of c.with-world.result) (ad_frames c.look-ad.result.now) c.slots_world-before.ensures.world looked c.with-world.ensures in
-    let decided = pair-decided c.args.moment stock request slots some last refl (world_of c.slots_world-before.result) (world_of c.with-world.result) (ad_frames c.look-ad.result.now) c.slots_world-before.ensures.world looked c.with-world.ensures c.request_place.result c.request_place.ensures in
-    most-undecided (is_last_decided (slots_world c.args.moment stock request slots)) (2 * attribute_count (slots_world c.args.moment stock request slots)) c.args.entry.now c.dock.new.entry (sym decided ∙ some-undecided (ad_frames request.ad) c.request_place.result.frame (labels_of request.ports) (ad_frames c.look-ad.result.now) c.in-Some.sides (sym c.open_sides.ensures ∙ c.in-Some.is))
+    let world =
+    pair-world c.args.moment stock request slots some last refl (world_of c.slots_world-before.result) (world_of c.with-world.result)
+    (ad_frames c.look-ad.result.now) c.slots_world-before.ensures.world looked c.with-world.ensures in
+    let decided =
+    pair-decided c.args.moment stock request slots some last refl (world_of c.slots_world-before.result) (world_of c.with-world.result)
+    (ad_frames c.look-ad.result.now) c.slots_world-before.ensures.world looked c.with-world.ensures c.request_place.result c.request_place.ensures in
+    most-undecided (is_last_decided (slots_world c.args.moment stock request slots)) (2 * attribute_count (slots_world c.args.moment stock request slots))
+    c.args.entry.now c.dock.new.entry (sym decided ∙ some-undecided (ad_frames request.ad) c.request_place.result.frame (labels_of
+    request.ports) (ad_frames c.look-ad.result.now) c.in-Some.sides (sym c.open_sides.ensures ∙ c.in-Some.is))
     (subst (λ (w : PlainWorld). c.dock.new.entry ≤ c.args.entry.now + 2 * attribute_count w) world c.dock.ensures.entries)
 
 pub returns-clause-ratio : goal.returns-clause-ratio
@@ -106,5 +129,7 @@ returns-clause-ratio g c small ads =
     let last = length slots - 1 in
     let some = c.requires.some in
     let looked = ad-looked stock (get_or slots last 0) (ad_frames c.look-ad.result.now) (c.requires.stored last 0 (omega (arith, some))) c.look-ad.ensures.ad in
-    let world = pair-world c.args.moment stock request slots some last refl (world_of c.slots_world-before.result) (world_of c.with-world.result) (ad_frames c.look-ad.result.now) c.slots_world-before.ensures.world looked c.with-world.ensures in
+    let world =
+    pair-world c.args.moment stock request slots some last refl (world_of c.slots_world-before.result) (world_of c.with-world.result)
+    (ad_frames c.look-ad.result.now) c.slots_world-before.ensures.world looked c.with-world.ensures in
     c.dock.ensures.ratio (slots-small c.args.moment stock request slots (world_of c.with-world.result) world small ads)

@@ -14,5 +14,6 @@ returns c =
     let t = tree c.args.expr.now in
     record {
       request = λ n test v some is has. conjunct-value w n (request_side w) w.request (labels_of w.ports) (last_ad w) 0 (request-sees w some) t test v is has;
-      resource = λ n test v some is has. conjunct-value w n (resource_side w) (last_ad w) [] w.request (request_side w).frame (resource-sees w some) t test v is has;
+      resource =
+          λ n test v some is has. conjunct-value w n (resource_side w) (last_ad w) [] w.request (request_side w).frame (resource-sees w some) t test v is has;
     }

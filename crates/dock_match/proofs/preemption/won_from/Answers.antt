@@ -23,7 +23,9 @@ pub returns-clause-won : goal.returns-clause-won
 returns-clause-won g c =
     let w = world_of c.slots_world-world.result in
     let stock = stock_of c.args.store.now in
-    let taken = subst (λ (k : ℤ). IfOk c.taken_from.result (λ won. won ≡ taken_by (rank_by w (resource_side w)) k c.in-Some.holder.number c.args.number)) (to_z-of_z w128 c.args.regard c.ranges.regard) c.taken_from.ensures.taken in
+    let taken =
+    subst (λ (k : ℤ). IfOk c.taken_from.result (λ won. won ≡ taken_by (rank_by w (resource_side w)) k c.in-Some.holder.number c.args.number))
+    (to_z-of_z w128 c.args.regard c.ranges.regard) c.taken_from.ensures.taken in
     subst (λ (won : Option Preemption). IfOk c.taken_from.result (λ p. p ≡ won))
     (won-of-holder c.args.moment stock c.args.holder c.in-Some.holder w c.args.number c.args.regard c.in-Some.is c.slots_world-world.ensures.world)
     taken
@@ -32,5 +34,6 @@ pub returns-clause-ratio : goal.returns-clause-ratio
 returns-clause-ratio g c small ads =
     let holder = c.in-Some.holder in
     c.taken_from.ensures.ratio
-    (slots-small c.args.moment (stock_of c.args.store.now) holder.request.now (take (holder.port + 1) holder.slots.now) (world_of c.slots_world-world.result) c.slots_world-world.ensures.world
+    (slots-small c.args.moment (stock_of c.args.store.now) holder.request.now (take (holder.port + 1) holder.slots.now) (world_of c.slots_world-world.result)
+    c.slots_world-world.ensures.world
     (some-of c.args.holder holder (λ h. IsSmall (ad_frames h.request.now.ad)) c.in-Some.is small) ads)

@@ -9,8 +9,10 @@ any_refers-refers-requires t c = omega (arith, c.decreases, size-at (trees c.arg
 
 pub any_refers-returns-then-refers : goal.any_refers-returns-then-refers
 any_refers-returns-then-refers t c =
-    tree-found c.args.label.now (trees c.args.list.now) c.loop-i.i c.loop-i.invariant (tree c.at.result.now) c.at.ensures (sym c.if-refers.true ∙ c.refers.ensures)
+    tree-found c.args.label.now (trees c.args.list.now) c.loop-i.i c.loop-i.invariant (tree c.at.result.now) c.at.ensures
+    (sym c.if-refers.true ∙ c.refers.ensures)
 
 pub any_refers-loop-i-preserved : goal.any_refers-loop-i-preserved
 any_refers-loop-i-preserved t c =
-    tree-next c.args.label.now (trees c.args.list.now) c.loop-i.i c.loop-i.invariant (tree c.at.result.now) c.at.ensures (sym c.if-refers.false ∙ c.refers.ensures)
+    tree-next c.args.label.now (trees c.args.list.now) c.loop-i.i c.loop-i.invariant (tree c.at.result.now) c.at.ensures
+    (sym c.if-refers.false ∙ c.refers.ensures)

@@ -10,7 +10,8 @@ loop-place-preserved c =
     let stock = stock_of c.args.store.now in
     let places = c.args.places.now in
     let i = c.loop-place.place-index in
-    let slot : c.at.result ≡ slot_at stock (get_or places i 0) = sym (get_or_from_slice_get stock.slots (get_or places i 0) c.at.result 0 c.at.ensures.place) in
+    let slot : c.at.result ≡ slot_at stock (get_or places i 0) =
+    sym (get_or_from_slice_get stock.slots (get_or places i 0) c.at.result 0 c.at.ensures.place) in
     c.in_ok-push.ensures.ok
     ∙ ap (λ (slots : List ℕ). slots ++ c.at.result ∷ []) c.loop-place.invariant
     ∙ ap (λ (s : ℕ). map (slot_at stock) (take i places) ++ s ∷ []) slot

@@ -6,4 +6,5 @@ use Rattle.gang_ports.proofs.CandidateLemmas.{candidate_weak}
 use Rattle.gang_ports.proofs.weighing.arrange.Goals as goal
 
 pub returns-clause-ordered : goal.returns-clause-ordered
-returns-clause-ordered c = c.sort_unstable_by.ensures.sorted (λ a b. is_lt (candidate_order a b)) candidate_weak (answers_always _ _ _ (λ f a r g h. search rules))
+returns-clause-ordered c =
+    c.sort_unstable_by.ensures.sorted (λ a b. is_lt (candidate_order a b)) candidate_weak (answers_always _ _ _ (λ f a r g h. search rules))

@@ -7,5 +7,5 @@ use Rattle.literal_index.proofs.selection.push_chosen.Goals as goal
 pub range-place-items-requires : goal.range-place-items-requires
 range-place-items-requires c =
     ap (λ p. is_gt (place_order p c.last.result)) c.first.ensures
-    ∙ ap (λ p. is_gt (place_order (first_place c.digest-name.result c.args.span) p)) c.last.ensures
-    ∙ forward c.digest-name.result c.args.span
+    ∙ ap (λ p. is_gt (place_order (first_place c.name_digest-name.result c.args.span) p)) c.last.ensures
+    ∙ forward c.name_digest-name.result c.args.span

@@ -10,4 +10,5 @@ one_more-requires c =
 
 pub loop-i-preserved : goal.loop-i-preserved
 loop-i-preserved c =
-    counted-now c.args.truths.now c.args.counts.now c.loop-i.counts c.loop-i.i c.one_more.result c.loop-i-test.true c.requires.beside c.loop-i.invariant c.one_more.ensures
+    counted-now c.args.truths.now c.args.counts.now c.loop-i.counts c.loop-i.i c.one_more.result c.loop-i-test.true c.requires.beside c.loop-i.invariant
+    c.one_more.ensures

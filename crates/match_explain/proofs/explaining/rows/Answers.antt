@@ -14,7 +14,10 @@ loop-i-preserved c =
     let i = c.loop-i.i in
     let counts = c.args.counts.now in
     let within : i < length es = omega (arith, c.loop-i-test.true, c.len-i-end.ensures) in
-    let there = slice_get-map (λ (x : Bor Expr). tree x.now) es i ∙ ap (option_map (λ (x : Bor Expr). tree x.now)) (slice_get_read es (length es) i e refl within c.index.ensures) in
+    let there =
+    slice_get-map (λ (x : Bor Expr). tree x.now) es i ∙ ap (option_map (λ (x : Bor Expr). tree x.now)) (slice_get_read es (length es) i e refl within
+    c.index.ensures) in
     let beside = slice_get-get_or counts i 0 (omega (arith, within, c.requires)) in
-    rows-next (ad_frames question.request.now.ad) (map (λ (x : Bor Expr). tree x.now) es) counts i (tree e.now) (get_or counts i 0) c.in_ok-text.text c.loop-i.rows c.push.new.self
+    rows-next (ad_frames question.request.now.ad) (map (λ (x : Bor Expr). tree x.now) es) counts i (tree e.now) (get_or counts i 0) c.in_ok-text.text
+    c.loop-i.rows c.push.new.self
     there beside c.loop-i.invariant c.in_ok-text.ensures c.in_ok-push.ensures.ok

@@ -18,7 +18,8 @@ pub returns-in_err-verdict-clause-evaluations : goal.returns-in_err-verdict-clau
 returns-in_err-verdict-clause-evaluations g c =
     let request = ad_frames c.args.question.now.request.now.ad in
     let ads = (stock_of c.args.store.now).ads in
-    evaluations-stay c.args.question.now.moment request ads c.loop-place.place (ad_frames c.look-ad.result.now) (c.look-ad.ensures.ad c.loop-place.place c.at.ensures.place)
+    evaluations-stay c.args.question.now.moment request ads c.loop-place.place (ad_frames c.look-ad.result.now)
+    (c.look-ad.ensures.ad c.loop-place.place c.at.ensures.place)
     c.args.tops.now c.loop-place.tops c.judge.new.tops c.loop-place.invariant.evaluations c.judge.ensures.evaluations
 
 pub returns-in_err-verdict-clause-ratio : goal.returns-in_err-verdict-clause-ratio
@@ -31,7 +32,8 @@ pub returns-in_err-push-clause-evaluations : goal.returns-in_err-push-clause-eva
 returns-in_err-push-clause-evaluations g c =
     let request = ad_frames c.args.question.now.request.now.ad in
     let ads = (stock_of c.args.store.now).ads in
-    evaluations-stay c.args.question.now.moment request ads c.loop-place.place (ad_frames c.look-ad.result.now) (c.look-ad.ensures.ad c.loop-place.place c.at.ensures.place)
+    evaluations-stay c.args.question.now.moment request ads c.loop-place.place (ad_frames c.look-ad.result.now)
+    (c.look-ad.ensures.ad c.loop-place.place c.at.ensures.place)
     c.args.tops.now c.loop-place.tops c.judge.new.tops c.loop-place.invariant.evaluations c.judge.ensures.evaluations
 
 pub returns-in_err-push-clause-ratio : goal.returns-in_err-push-clause-ratio
@@ -49,9 +51,20 @@ loop-place-preserved g c =
     let fs = ad_frames c.look-ad.result.now in
     let is = c.look-ad.ensures.ad place c.at.ensures.place in
     record {
-      verdicts = verdicts-next moment request ads place fs is c.loop-place.verdicts c.push.new.self c.in_ok-verdict.verdict c.loop-place.invariant.verdicts c.in_ok-verdict.ensures.verdict c.in_ok-push.ensures.ok;
-      counts = counts-now moment request ads place fs is (conjuncts_at request 0) c.loop-place.counts c.judge.new.counts c.loop-place.invariant.counts c.in_ok-verdict.ensures.counts;
-      evaluations = evaluations-next moment request ads place fs is c.args.tops.now c.loop-place.tops c.judge.new.tops c.loop-place.invariant.evaluations c.judge.ensures.evaluations;
-      ratio = λ small_request small_ads. omega (arith, c.loop-place.invariant.ratio small_request small_ads, c.judge.ensures.ratio small_request (found-small ads place fs small_ads is));
+      verdicts =
+          verdicts-next moment request ads place fs is c.loop-place.verdicts c.push.new.self c.in_ok-verdict.verdict c.loop-place.invariant.verdicts
+          c.in_ok-verdict.ensures.verdict c.in_ok-push.ensures.ok;
+      counts =
+          counts-now moment request ads place fs is (conjuncts_at request 0) c.loop-place.counts c.judge.new.counts c.loop-place.invariant.counts
+          c.in_ok-verdict.ensures.counts;
+      evaluations =
+          evaluations-next moment request ads place fs is c.args.tops.now c.loop-place.tops c.judge.new.tops c.loop-place.invariant.evaluations
+          c.judge.ensures.evaluations;
+      ratio =
+          λ small_request small_ads. omega (
+            arith,
+            c.loop-place.invariant.ratio small_request small_ads,
+            c.judge.ensures.ratio small_request (found-small ads place fs small_ads is),
+          );
       looks = omega (arith, c.loop-place.invariant.looks, c.look-ad.ensures.counted);
     }

@@ -10,8 +10,10 @@ use Rattle.match_explain.proofs.explaining.verdicts.Given as goal
 abbrev pub invariant-loop-place : goal.invariant-loop-place
 invariant-loop-place g l = record {
   verdicts : l.verdicts ≡ why.verdicts l.question.moment (ad_frames l.question.request.now.ad) (take l.place (stock_of l.store).ads);
-  counts : l.counts ≡ map (why.holding l.question.moment (ad_frames l.question.request.now.ad) (take l.place (stock_of l.store).ads)) (conjuncts_at (ad_frames l.question.request.now.ad) 0);
+  counts : l.counts ≡ map (why.holding l.question.moment (ad_frames l.question.request.now.ad) (take l.place (stock_of l.store).ads)) (conjuncts_at
+      (ad_frames l.question.request.now.ad) 0);
   evaluations : l.tops ≤ l.initial.tops + evaluations_most (ad_frames l.question.request.now.ad) (take l.place (stock_of l.store).ads);
-  ratio : IsSmall (ad_frames l.question.request.now.ad) → All (λ advert. IsSmall advert.ad) (stock_of l.store).ads → l.entry + 9216 * l.initial.tops ≤ l.initial.entry + 9216 * l.tops;
+  ratio : IsSmall (ad_frames l.question.request.now.ad) → All (λ advert. IsSmall advert.ad) (stock_of l.store).ads
+      → l.entry + 9216 * l.initial.tops ≤ l.initial.entry + 9216 * l.tops;
   looks : l.touch ≤ l.initial.touch + l.place;
 }

@@ -12,14 +12,18 @@ returns-then-not-branch-clause-found g c =
     let xs = c.args.conjuncts.now in
     let x = c.index-conjuncts-i.result in
     ap Some c.in_ok-number.ensures
-    ∙ sym (found-here (λ (e : Bor Expr). holds (world_of c.args.world.now) c.args.at (tree e.now)) xs c.loop-i.i x (slice_get-get_or xs c.loop-i.i x c.loop-i-test.true ∙ ap Some (sym c.index-conjuncts-i.is)) c.loop-i.invariant.none (sym c.in_ok-holds.ensures.holds ∙ c.if-not-branch.true))
+    ∙ sym (found-here (λ (e : Bor Expr). holds (world_of c.args.world.now) c.args.at (tree e.now)) xs c.loop-i.i x
+    (slice_get-get_or xs c.loop-i.i x c.loop-i-test.true ∙ ap Some (sym c.index-conjuncts-i.is)) c.loop-i.invariant.none
+    (sym c.in_ok-holds.ensures.holds ∙ c.if-not-branch.true))
 
 pub loop-i-preserved : goal.loop-i-preserved
 loop-i-preserved g c =
     let xs = c.args.conjuncts.now in
     let x = c.index-conjuncts-i.result in
     record {
-      none = none-more (λ (e : Bor Expr). holds (world_of c.args.world.now) c.args.at (tree e.now)) xs c.loop-i.i x (slice_get-get_or xs c.loop-i.i x c.loop-i-test.true ∙ ap Some (sym c.index-conjuncts-i.is)) c.loop-i.invariant.none (sym c.in_ok-holds.ensures.holds ∙ c.if-not-branch.false);
+      none = none-more (λ (e : Bor Expr). holds (world_of c.args.world.now) c.args.at (tree e.now)) xs c.loop-i.i x
+          (slice_get-get_or xs c.loop-i.i x c.loop-i-test.true ∙ ap Some (sym c.index-conjuncts-i.is)) c.loop-i.invariant.none
+          (sym c.in_ok-holds.ensures.holds ∙ c.if-not-branch.false);
       evaluations = omega (arith, c.loop-i.invariant.evaluations, c.holds.ensures.evaluations);
       ratio = λ small. omega (arith, c.loop-i.invariant.ratio small, c.holds.ensures.ratio small);
     }

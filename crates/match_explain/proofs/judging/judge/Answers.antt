@@ -14,9 +14,13 @@ returns-in-Some-clause-verdict g c =
     let question = c.args.question.now in
     let request = ad_frames question.request.now.ad in
     let ad = ad_frames c.args.ad.now in
-    let same = docked-world question.moment request ad question.request.now.ports (world_of c.new.result) (world_of c.with-world.result) c.new.ensures c.with-world.ensures c.requires.single in
+    let same =
+    docked-world question.moment request ad question.request.now.ports (world_of c.new.result) (world_of c.with-world.result) c.new.ensures
+    c.with-world.ensures c.requires.single in
     let held : List Bool = c.in_ok-held.held.items in
-    let are = truths-are question.moment request ad question.conjuncts.items c.requires.gathered (world_of c.with-world.result) c.request_place.result c.deref.result.now held same c.request_place.ensures c.deref.ensures.value c.in_ok-held.ensures.truths in
+    let are =
+    truths-are question.moment request ad question.conjuncts.items c.requires.gathered (world_of c.with-world.result) c.request_place.result
+    c.deref.result.now held same c.request_place.ensures c.deref.ensures.value c.in_ok-held.ensures.truths in
     request-declines question.moment request ad held are c.in_ok-j.field-0 c.in-Some.j
     (c.in_ok-j.ensures ∙ ap (λ (bs : List Bool). against (requirement_expr request 0) (first_failing (λ b. b) bs)) c.deref-3.ensures.value) c.in-Some.is
 
@@ -25,8 +29,12 @@ returns-in-Some-clause-counts g c =
     let question = c.args.question.now in
     let request = ad_frames question.request.now.ad in
     let ad = ad_frames c.args.ad.now in
-    let same = docked-world question.moment request ad question.request.now.ports (world_of c.new.result) (world_of c.with-world.result) c.new.ensures c.with-world.ensures c.requires.single in
-    let are = truths-are question.moment request ad question.conjuncts.items c.requires.gathered (world_of c.with-world.result) c.request_place.result c.deref.result.now c.in_ok-held.held.items same c.request_place.ensures c.deref.ensures.value c.in_ok-held.ensures.truths in
+    let same =
+    docked-world question.moment request ad question.request.now.ports (world_of c.new.result) (world_of c.with-world.result) c.new.ensures
+    c.with-world.ensures c.requires.single in
+    let are =
+    truths-are question.moment request ad question.conjuncts.items c.requires.gathered (world_of c.with-world.result) c.request_place.result
+    c.deref.result.now c.in_ok-held.held.items same c.request_place.ensures c.deref.ensures.value c.in_ok-held.ensures.truths in
     c.count.ensures ∙ ap (λ (bs : List Bool). counted bs c.args.counts.now) (c.deref-2.ensures.value ∙ are)
 
 pub returns-clause-verdict : goal.returns-clause-verdict
@@ -34,9 +42,13 @@ returns-clause-verdict g c =
     let question = c.args.question.now in
     let request = ad_frames question.request.now.ad in
     let ad = ad_frames c.args.ad.now in
-    let same = docked-world question.moment request ad question.request.now.ports (world_of c.new.result) (world_of c.with-world.result) c.new.ensures c.with-world.ensures c.requires.single in
+    let same =
+    docked-world question.moment request ad question.request.now.ports (world_of c.new.result) (world_of c.with-world.result) c.new.ensures
+    c.with-world.ensures c.requires.single in
     let held : List Bool = c.in_ok-held.held.items in
-    let are = truths-are question.moment request ad question.conjuncts.items c.requires.gathered (world_of c.with-world.result) c.request_place.result c.deref.result.now held same c.request_place.ensures c.deref.ensures.value c.in_ok-held.ensures.truths in
+    let are =
+    truths-are question.moment request ad question.conjuncts.items c.requires.gathered (world_of c.with-world.result) c.request_place.result
+    c.deref.result.now held same c.request_place.ensures c.deref.ensures.value c.in_ok-held.ensures.truths in
     c.resource_verdict.ensures
     ∙ request-accepts question.moment request ad held are c.in_ok-j.field-0 c.in_ok-failing.failing
     (c.in_ok-j.ensures ∙ ap (λ (bs : List Bool). against (requirement_expr request 0) (first_failing (λ b. b) bs)) c.deref-3.ensures.value) c.in_default.is
@@ -47,6 +59,10 @@ returns-clause-counts g c =
     let question = c.args.question.now in
     let request = ad_frames question.request.now.ad in
     let ad = ad_frames c.args.ad.now in
-    let same = docked-world question.moment request ad question.request.now.ports (world_of c.new.result) (world_of c.with-world.result) c.new.ensures c.with-world.ensures c.requires.single in
-    let are = truths-are question.moment request ad question.conjuncts.items c.requires.gathered (world_of c.with-world.result) c.request_place.result c.deref.result.now c.in_ok-held.held.items same c.request_place.ensures c.deref.ensures.value c.in_ok-held.ensures.truths in
+    let same =
+    docked-world question.moment request ad question.request.now.ports (world_of c.new.result) (world_of c.with-world.result) c.new.ensures
+    c.with-world.ensures c.requires.single in
+    let are =
+    truths-are question.moment request ad question.conjuncts.items c.requires.gathered (world_of c.with-world.result) c.request_place.result
+    c.deref.result.now c.in_ok-held.held.items same c.request_place.ensures c.deref.ensures.value c.in_ok-held.ensures.truths in
     c.count.ensures ∙ ap (λ (bs : List Bool). counted bs c.args.counts.now) (c.deref-2.ensures.value ∙ are)

@@ -16,7 +16,9 @@ returns-clause-found g c =
     let side = resource_side w in
     let es : List (Bor Expr) = c.in_ok-conjuncts.conjuncts.items in
     let t = tree c.in-Some.expr.now in
-    let asked = ap (λ (fs : List Frame). requirement_expr fs 0) c.requires ∙ sym c.requirement.ensures ∙ ap (option_map (λ (e : Bor Expr). tree e.now)) c.in-Some.is in
+    let asked =
+    ap (λ (fs : List Frame). requirement_expr fs 0) c.requires ∙ sym c.requirement.ensures
+    ∙ ap (option_map (λ (e : Bor Expr). tree e.now)) c.in-Some.is in
     subst (λ (x : Option ℕ). IfOk c.first_failing.result (λ found. found ≡ x))
     (ap (λ (xs : List (Bor Expr)). first_failing (λ e. holds w c.resource_place.result (tree e.now)) xs) c.deref.ensures.value
     ∙ ap (λ (p : AdPlace). first_failing (λ (e : Bor Expr). holds w p (tree e.now)) es) c.resource_place.ensures

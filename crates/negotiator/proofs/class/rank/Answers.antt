@@ -13,7 +13,8 @@ returns-in_err-slots-clause-ratio g c ads small =
 
 pub returns-clause-ranked : goal.returns-clause-ranked
 returns-clause-ranked g c =
-    ranked-first c.args.scene.now.moment (stock_in c.args.scene.now) (settings_in c.args.scene.now) (jobs_of c.args.claims.now) (ad_frames c.args.request.now.ad) c.args.number c.in_ok-slots.slots c.in_ok-slots.ensures.best
+    ranked-first c.args.scene.now.moment (stock_in c.args.scene.now) (settings_in c.args.scene.now) (jobs_of c.args.claims.now)
+    (ad_frames c.args.request.now.ad) c.args.number c.in_ok-slots.slots c.in_ok-slots.ensures.best
 
 pub returns-clause-ratio : goal.returns-clause-ratio
 returns-clause-ratio g c ads small =

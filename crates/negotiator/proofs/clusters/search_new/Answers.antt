@@ -13,7 +13,7 @@ search_alone-requires-clause-known g c =
 pub returns-in_err-slot-clause-clusters : goal.returns-in_err-slot-clause-clusters
 returns-in_err-slot-clause-clusters g c =
     let read = c.read_names.ensures.clusters (settings_in c.args.scene.now) (jobs_of c.args.claims.now) c.requires.clusters in
-    record { reach = read.reach; classes = read.classes; known = c.search_alone.ensures.known }
+    record { reach = read.reach; classes = read.classes; known = c.search_alone.ensures.known; free = read.free; few = read.few }
 
 pub returns-in_err-note-clause-clusters : goal.returns-in_err-note-clause-clusters
 returns-in_err-note-clause-clusters g c =
@@ -21,7 +21,7 @@ returns-in_err-note-clause-clusters g c =
     let jobs = jobs_of c.args.claims.now in
     let read = c.read_names.ensures.clusters settings jobs c.requires.clusters in
     c.note.ensures.clusters c.args.scene.now.moment (stock_in c.args.scene.now) settings jobs
-    (record { reach = read.reach; classes = read.classes; known = c.search_alone.ensures.known })
+    (record { reach = read.reach; classes = read.classes; known = c.search_alone.ensures.known; free = read.free; few = read.few })
 
 pub returns-clause-clusters : goal.returns-clause-clusters
 returns-clause-clusters g c =
@@ -29,4 +29,4 @@ returns-clause-clusters g c =
     let jobs = jobs_of c.args.claims.now in
     let read = c.read_names.ensures.clusters settings jobs c.requires.clusters in
     c.note.ensures.clusters c.args.scene.now.moment (stock_in c.args.scene.now) settings jobs
-    (record { reach = read.reach; classes = read.classes; known = c.search_alone.ensures.known })
+    (record { reach = read.reach; classes = read.classes; known = c.search_alone.ensures.known; free = read.free; few = read.few })

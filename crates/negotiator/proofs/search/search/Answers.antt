@@ -22,13 +22,15 @@ returns-then-len-eq0-clause-found g c =
     let request = c.request-request.result.now in
     let mine = c.get-number.ensures.number ∙ ap (λ user. priority_of user settings) c.bytes.ensures in
     let same = request-found moment stock settings jobs c.args.i request c.request-request.ensures c.user.result.now c.get-number.result c.user.ensures mine in
-    IfOk-weaker c.search_one.result (λ slots. slots ≡ found_for moment stock settings jobs c.get-number.result request) (λ slots. slots ≡ found moment stock settings jobs c.args.i) (λ slots e. e ∙ sym same) c.search_one.ensures.found
+    IfOk-weaker c.search_one.result (λ slots. slots ≡ found_for moment stock settings jobs c.get-number.result request)
+    (λ slots. slots ≡ found moment stock settings jobs c.args.i) (λ slots e. e ∙ sym same) c.search_one.ensures.found
 
 pub returns-then-len-eq0-clause-enough : goal.returns-then-len-eq0-clause-enough
 returns-then-len-eq0-clause-enough g c =
     let jobs = jobs_of c.args.claims.now in
     let request = c.request-request.result.now in
-    let wants = request-wanted c.args.scene.now.moment (stock_in c.args.scene.now) (settings_in c.args.scene.now) jobs c.args.i request c.request-request.ensures in
+    let wants =
+    request-wanted c.args.scene.now.moment (stock_in c.args.scene.now) (settings_in c.args.scene.now) jobs c.args.i request c.request-request.ensures in
     IfOk-weaker c.search_one.result (λ slots. IfSome slots (λ (list : List ℕ). wanted request ≡ length list))
     (λ slots. IfSome slots (λ (list : List ℕ). option_map (λ (job : Job). wanted job.request) (slice_get jobs c.args.i) ≡ Some (length list)))
     (λ slots h. IfSome_then slots h (λ list enough. wants ∙ ap (λ (n : ℕ). Some n) enough)) c.search_one.ensures.enough
@@ -53,14 +55,16 @@ returns-else-len-eq0-clause-found g c =
     let settings = settings_in c.args.scene.now in
     let jobs = jobs_of c.args.claims.now in
     let request = c.request-request.result.now in
-    IfOk-weaker c.search_gang.result (λ slots. (number : ℕ) → slots ≡ found_for moment stock settings jobs number request) (λ slots. slots ≡ found moment stock settings jobs c.args.i)
+    IfOk-weaker c.search_gang.result (λ slots. (number : ℕ) → slots ≡ found_for moment stock settings jobs number request)
+    (λ slots. slots ≡ found moment stock settings jobs c.args.i)
     (request-found-by-all moment stock settings jobs c.args.i request c.request-request.ensures) c.search_gang.ensures.found
 
 pub returns-else-len-eq0-clause-enough : goal.returns-else-len-eq0-clause-enough
 returns-else-len-eq0-clause-enough g c =
     let jobs = jobs_of c.args.claims.now in
     let request = c.request-request.result.now in
-    let wants = request-wanted c.args.scene.now.moment (stock_in c.args.scene.now) (settings_in c.args.scene.now) jobs c.args.i request c.request-request.ensures in
+    let wants =
+    request-wanted c.args.scene.now.moment (stock_in c.args.scene.now) (settings_in c.args.scene.now) jobs c.args.i request c.request-request.ensures in
     IfOk-weaker c.search_gang.result (λ slots. IfSome slots (λ (list : List ℕ). wanted request ≡ length list))
     (λ slots. IfSome slots (λ (list : List ℕ). option_map (λ (job : Job). wanted job.request) (slice_get jobs c.args.i) ≡ Some (length list)))
     (λ slots h. IfSome_then slots h (λ list enough. wants ∙ ap (λ (n : ℕ). Some n) enough)) c.search_gang.ensures.enough

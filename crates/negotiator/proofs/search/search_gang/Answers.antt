@@ -15,15 +15,18 @@ use Rattle.negotiator.proofs.search.search_gang.Goals as goal
 
 pub returns-clause-evaluations : goal.returns-clause-evaluations
 returns-clause-evaluations g c =
-    evaluations-gang c.args.scene.now.moment (stock_in c.args.scene.now) (settings_in c.args.scene.now) (jobs_of c.args.claims.now) c.args.request.now c.requires.some c.args.tops.now c.first_gang.new.tops c.first_gang.ensures.evaluations
+    evaluations-gang c.args.scene.now.moment (stock_in c.args.scene.now) (settings_in c.args.scene.now) (jobs_of c.args.claims.now) c.args.request.now
+    c.requires.some c.args.tops.now c.first_gang.new.tops c.first_gang.ensures.evaluations
 
 pub returns-clause-entries : goal.returns-clause-entries
 returns-clause-entries g c =
-    entries-gang c.args.scene.now.moment (stock_in c.args.scene.now) (settings_in c.args.scene.now) (jobs_of c.args.claims.now) c.args.request.now c.requires.some c.args.entry.now c.first_gang.new.entry c.first_gang.ensures.entries
+    entries-gang c.args.scene.now.moment (stock_in c.args.scene.now) (settings_in c.args.scene.now) (jobs_of c.args.claims.now) c.args.request.now
+    c.requires.some c.args.entry.now c.first_gang.new.entry c.first_gang.ensures.entries
 
 pub returns-clause-looks : goal.returns-clause-looks
 returns-clause-looks g c =
-    looks-gang c.args.scene.now.moment (stock_in c.args.scene.now) (settings_in c.args.scene.now) (jobs_of c.args.claims.now) c.args.request.now c.requires.some c.args.touch.now c.first_gang.new.touch c.first_gang.ensures.looks
+    looks-gang c.args.scene.now.moment (stock_in c.args.scene.now) (settings_in c.args.scene.now) (jobs_of c.args.claims.now) c.args.request.now c.requires.some
+    c.args.touch.now c.first_gang.new.touch c.first_gang.ensures.looks
 
 pub returns-clause-found : goal.returns-clause-found
 returns-clause-found g c =
@@ -33,7 +36,8 @@ returns-clause-found g c =
     let jobs = jobs_of c.args.claims.now in
     let request = c.args.request.now in
     let is = found-gang moment stock settings jobs request c.requires.some in
-    IfOk-weaker c.first_gang.result (λ slots. slots ≡ option_map (map (slot_at stock)) (gang (pool_for moment stock settings jobs) (ad_frames request.ad) request.ports)) (λ slots. (number : ℕ) → slots ≡ found_for moment stock settings jobs number request)
+    IfOk-weaker c.first_gang.result (λ slots. slots ≡ option_map (map (slot_at stock)) (gang (pool_for moment stock settings jobs) (ad_frames request.ad)
+    request.ports)) (λ slots. (number : ℕ) → slots ≡ found_for moment stock settings jobs number request)
     (λ slots e number. e ∙ sym (is number)) c.first_gang.ensures.gang
 
 pub returns-clause-free : goal.returns-clause-free
@@ -45,7 +49,8 @@ returns-clause-free g c =
     let frames = ad_frames c.args.request.now.ad in
     let ports = c.args.request.now.ports in
     let free : List ℕ → Type 0 = λ list. AreFree list jobs in
-    IfOk-weaker c.first_gang.result (λ slots. slots ≡ option_map (map (slot_at stock)) (gang (pool_for moment stock settings jobs) frames ports)) (λ slots. IfSome slots free)
+    IfOk-weaker c.first_gang.result (λ slots. slots ≡ option_map (map (slot_at stock)) (gang (pool_for moment stock settings jobs) frames ports))
+    (λ slots. IfSome slots free)
     (gang-all moment stock settings jobs frames ports free (slots-free moment stock settings jobs frames ports)) c.first_gang.ensures.gang
 
 pub returns-clause-distinct : goal.returns-clause-distinct
@@ -57,8 +62,11 @@ returns-clause-distinct g c =
     let frames = ad_frames c.args.request.now.ad in
     let ports = c.args.request.now.ports in
     let distinct : List ℕ → Type 0 = AllPairs (λ (a b : ℕ). a ≢ b) in
-    IfOk-weaker c.first_gang.result (λ slots. slots ≡ option_map (map (slot_at stock)) (gang (pool_for moment stock settings jobs) frames ports)) (λ slots. IfSome slots distinct)
-    (gang-all moment stock settings jobs frames ports distinct (λ places is. slots-distinct moment stock settings jobs frames ports places is (beside c.args.scene.now.store.now) c.slots_are_apart.ensures)) c.first_gang.ensures.gang
+    IfOk-weaker c.first_gang.result (λ slots. slots ≡ option_map (map (slot_at stock)) (gang (pool_for moment stock settings jobs) frames ports))
+    (λ slots. IfSome slots distinct)
+    (gang-all moment stock settings jobs frames ports distinct
+    (λ places is. slots-distinct moment stock settings jobs frames ports places is (beside c.args.scene.now.store.now) c.slots_are_apart.ensures))
+    c.first_gang.ensures.gang
 
 pub returns-clause-enough : goal.returns-clause-enough
 returns-clause-enough g c =
@@ -69,5 +77,8 @@ returns-clause-enough g c =
     let frames = ad_frames c.args.request.now.ad in
     let ports = c.args.request.now.ports in
     let enough : List ℕ → Type 0 = λ list. wanted c.args.request.now ≡ length list in
-    IfOk-weaker c.first_gang.result (λ slots. slots ≡ option_map (map (slot_at stock)) (gang (pool_for moment stock settings jobs) frames ports)) (λ slots. IfSome slots enough)
-    (gang-all moment stock settings jobs frames ports enough (λ places is. gang-wanted c.args.request.now c.requires.some ∙ sym (slots-many moment stock settings jobs frames ports places is))) c.first_gang.ensures.gang
+    IfOk-weaker c.first_gang.result (λ slots. slots ≡ option_map (map (slot_at stock)) (gang (pool_for moment stock settings jobs) frames ports))
+    (λ slots. IfSome slots enough)
+    (gang-all moment stock settings jobs frames ports enough
+    (λ places is. gang-wanted c.args.request.now c.requires.some ∙ sym (slots-many moment stock settings jobs frames ports places is)))
+    c.first_gang.ensures.gang

@@ -11,27 +11,33 @@ use Rattle.negotiator.proofs.search.search_one.Goals as goal
 
 pub returns-in_err-slot-clause-evaluations : goal.returns-in_err-slot-clause-evaluations
 returns-in_err-slot-clause-evaluations g c =
-    evaluations-one c.args.scene.now.moment (stock_in c.args.scene.now) (settings_in c.args.scene.now) (jobs_of c.args.claims.now) c.args.request.now c.requires.single c.args.tops.now c.choose.new.tops c.choose.ensures.evaluations
+    evaluations-one c.args.scene.now.moment (stock_in c.args.scene.now) (settings_in c.args.scene.now) (jobs_of c.args.claims.now) c.args.request.now
+    c.requires.single c.args.tops.now c.choose.new.tops c.choose.ensures.evaluations
 
 pub returns-in_err-slot-clause-entries : goal.returns-in_err-slot-clause-entries
 returns-in_err-slot-clause-entries g c =
-    entries-one c.args.scene.now.moment (stock_in c.args.scene.now) (settings_in c.args.scene.now) (jobs_of c.args.claims.now) c.args.request.now c.requires.single c.args.entry.now c.choose.new.entry c.choose.ensures.entries
+    entries-one c.args.scene.now.moment (stock_in c.args.scene.now) (settings_in c.args.scene.now) (jobs_of c.args.claims.now) c.args.request.now
+    c.requires.single c.args.entry.now c.choose.new.entry c.choose.ensures.entries
 
 pub returns-in_err-slot-clause-looks : goal.returns-in_err-slot-clause-looks
 returns-in_err-slot-clause-looks g c =
-    looks-one c.args.scene.now.moment (stock_in c.args.scene.now) (settings_in c.args.scene.now) (jobs_of c.args.claims.now) c.args.request.now c.requires.single (c.args.touch.now + c.args.clusters.now.looks.saved) (c.choose.new.touch + c.choose.new.clusters.looks.saved) c.choose.ensures.looks
+    looks-one c.args.scene.now.moment (stock_in c.args.scene.now) (settings_in c.args.scene.now) (jobs_of c.args.claims.now) c.args.request.now
+    c.requires.single (c.args.touch.now + c.args.clusters.now.looks.saved) (c.choose.new.touch + c.choose.new.clusters.looks.saved) c.choose.ensures.looks
 
 pub returns-clause-evaluations : goal.returns-clause-evaluations
 returns-clause-evaluations g c =
-    evaluations-one c.args.scene.now.moment (stock_in c.args.scene.now) (settings_in c.args.scene.now) (jobs_of c.args.claims.now) c.args.request.now c.requires.single c.args.tops.now c.choose.new.tops c.choose.ensures.evaluations
+    evaluations-one c.args.scene.now.moment (stock_in c.args.scene.now) (settings_in c.args.scene.now) (jobs_of c.args.claims.now) c.args.request.now
+    c.requires.single c.args.tops.now c.choose.new.tops c.choose.ensures.evaluations
 
 pub returns-clause-entries : goal.returns-clause-entries
 returns-clause-entries g c =
-    entries-one c.args.scene.now.moment (stock_in c.args.scene.now) (settings_in c.args.scene.now) (jobs_of c.args.claims.now) c.args.request.now c.requires.single c.args.entry.now c.choose.new.entry c.choose.ensures.entries
+    entries-one c.args.scene.now.moment (stock_in c.args.scene.now) (settings_in c.args.scene.now) (jobs_of c.args.claims.now) c.args.request.now
+    c.requires.single c.args.entry.now c.choose.new.entry c.choose.ensures.entries
 
 pub returns-clause-looks : goal.returns-clause-looks
 returns-clause-looks g c =
-    looks-one c.args.scene.now.moment (stock_in c.args.scene.now) (settings_in c.args.scene.now) (jobs_of c.args.claims.now) c.args.request.now c.requires.single (c.args.touch.now + c.args.clusters.now.looks.saved) (c.choose.new.touch + c.choose.new.clusters.looks.saved) c.choose.ensures.looks
+    looks-one c.args.scene.now.moment (stock_in c.args.scene.now) (settings_in c.args.scene.now) (jobs_of c.args.claims.now) c.args.request.now
+    c.requires.single (c.args.touch.now + c.args.clusters.now.looks.saved) (c.choose.new.touch + c.choose.new.clusters.looks.saved) c.choose.ensures.looks
 
 pub returns-clause-found : goal.returns-clause-found
 returns-clause-found g c =
@@ -39,8 +45,10 @@ returns-clause-found g c =
     let stock = stock_in c.args.scene.now in
     let settings = settings_in c.args.scene.now in
     let jobs = jobs_of c.args.claims.now in
-    IfOk-weaker c.listed.result (λ slots. slots ≡ option_map (λ s. s ∷ []) c.in_ok-slot.slot) (λ slots. slots ≡ found_for moment stock settings jobs c.args.number c.args.request.now)
-    (λ slots e. e ∙ found-one moment stock settings jobs c.args.request.now c.requires.single c.args.number c.in_ok-slot.slot c.in_ok-slot.ensures.best) c.listed.ensures
+    IfOk-weaker c.listed.result (λ slots. slots ≡ option_map (λ s. s ∷ []) c.in_ok-slot.slot)
+    (λ slots. slots ≡ found_for moment stock settings jobs c.args.number c.args.request.now)
+    (λ slots e. e ∙ found-one moment stock settings jobs c.args.request.now c.requires.single c.args.number c.in_ok-slot.slot c.in_ok-slot.ensures.best)
+    c.listed.ensures
 
 pub returns-clause-free : goal.returns-clause-free
 returns-clause-free g c =
@@ -50,11 +58,15 @@ returns-clause-free g c =
 
 pub returns-clause-distinct : goal.returns-clause-distinct
 returns-clause-distinct g c =
-    IfOk-weaker c.listed.result (λ slots. slots ≡ option_map (λ s. s ∷ []) c.in_ok-slot.slot) (λ slots. IfSome slots (AllPairs (λ (a b : ℕ). a ≢ b)))
-    (one-all (AllPairs (λ (a b : ℕ). a ≢ b)) c.in_ok-slot.slot (if-each (λ s. AllPairs (λ (a b : ℕ). a ≢ b) (s ∷ [])) one-apart c.in_ok-slot.slot)) c.listed.ensures
+    IfOk-weaker c.listed.result (λ slots. slots ≡ option_map (λ s. s ∷ []) c.in_ok-slot.slot)
+    (λ slots. IfSome slots (AllPairs (λ (a b : ℕ). a ≢ b)))
+    (one-all (AllPairs (λ (a b : ℕ). a ≢ b)) c.in_ok-slot.slot (if-each (λ s. AllPairs (λ (a b : ℕ). a ≢ b) (s ∷ [])) one-apart c.in_ok-slot.slot))
+    c.listed.ensures
 
 pub returns-clause-enough : goal.returns-clause-enough
 returns-clause-enough g c =
     let request = c.args.request.now in
-    IfOk-weaker c.listed.result (λ slots. slots ≡ option_map (λ s. s ∷ []) c.in_ok-slot.slot) (λ slots. IfSome slots (λ list. wanted request ≡ length list))
-    (one-all (λ list. wanted request ≡ length list) c.in_ok-slot.slot (if-each (λ s. wanted request ≡ 1) (λ s. one-wanted request c.requires.single) c.in_ok-slot.slot)) c.listed.ensures
+    IfOk-weaker c.listed.result (λ slots. slots ≡ option_map (λ s. s ∷ []) c.in_ok-slot.slot)
+    (λ slots. IfSome slots (λ list. wanted request ≡ length list))
+    (one-all (λ list. wanted request ≡ length list) c.in_ok-slot.slot
+    (if-each (λ s. wanted request ≡ 1) (λ s. one-wanted request c.requires.single) c.in_ok-slot.slot)) c.listed.ensures

@@ -1,4 +1,4 @@
-use Rattle.std.proofs.Common.{◌≡◌, ◌≢◌, ℕ, AllPairs, List, Some, ap, arith, length, refl, slice_get, subst, sym, ◌∙◌, ◌+◌}
+use Rattle.std.proofs.Common.{◌≡◌, ◌≢◌, ℕ, AllPairs, List, Some, ap, arith, count_by, length, refl, slice_get, subst, sym, ◌∙◌, ◌+◌}
 use Rattle.std.specs.Prelude.{IfSome, option_map}
 use Rattle.std.specs.Option.{option_map_or}
 use Rattle.claim_table.specs.declared.job.Job.{Job}
@@ -6,11 +6,12 @@ use Rattle.claim_table.specs.declared.job.Stage.{Stage}
 use Rattle.claim_table.specs.Jobs.{AreFree, wanted, with_standing}
 use Rattle.claim_table.specs.Table.{jobs_of}
 use Rattle.negotiator.specs.Budget.{ArePaid, counts}
-use Rattle.negotiator.specs.Markets.{offer_named}
+use Rattle.negotiator.specs.Markets.{found, is_free, offer_named}
 use Rattle.negotiator.specs.Scenes.{IsReady, settings_in, stock_in}
 use Rattle.negotiator.proofs.BudgetLemmas.{fail-paid, idle-within, offer-paid, paid-none, paid-within, search-within}
 use Rattle.negotiator.proofs.ClusterLemmas.{clusters-later, same-clusters}
 use Rattle.negotiator.proofs.CycleLemmas.{offer}
+use Rattle.negotiator.proofs.FreeLemmas.{free-given}
 use Rattle.negotiator.proofs.ReadyLemmas.{ready-given, ready-marked}
 use Rattle.negotiator.proofs.SpinLoopLemmas.{on_err}
 use Rattle.negotiator.proofs.search.try_job.Goals as goal
@@ -84,8 +85,10 @@ pub returns-in_err-slots-clause-within : goal.returns-in_err-slots-clause-within
 returns-in_err-slots-clause-within g c =
     let jobs = jobs_of c.args.claims.now in
     let place = idle-within jobs c.args.i c.requires.idle in
-    search-within c.args.scene.now.moment (stock_in c.args.scene.now) (settings_in c.args.scene.now) jobs c.args.failed.now c.args.i c.requires.idle c.if-failed-i.false (omega (arith, place, c.requires.ready.marks))
-    (counts c.args.tops.now c.args.entry.now (c.args.touch.now + c.args.clusters.now.looks.saved)) (counts c.search.new.tops c.search.new.entry (c.search.new.touch + c.search.new.clusters.looks.saved)) c.search.ensures.counted
+    search-within c.args.scene.now.moment (stock_in c.args.scene.now) (settings_in c.args.scene.now) jobs c.args.failed.now c.args.i c.requires.idle
+    c.if-failed-i.false (omega (arith, place, c.requires.ready.marks))
+    (counts c.args.tops.now c.args.entry.now (c.args.touch.now + c.args.clusters.now.looks.saved))
+    (counts c.search.new.tops c.search.new.entry (c.search.new.touch + c.search.new.clusters.looks.saved)) c.search.ensures.counted
 
 pub returns-in_default-clause-offered : goal.returns-in_default-clause-offered
 returns-in_default-clause-offered g c =
@@ -98,21 +101,26 @@ returns-in_default-clause-table g c =
     sym (ap (λ o. option_map_or (λ slots. with_standing jobs c.args.i (Stage.Matched slots)) o jobs) (sym c.in_ok-slots.ensures.found ∙ c.in_default.is))
 
 pub returns-in_default-clause-ready : goal.returns-in_default-clause-ready
-returns-in_default-clause-ready g c = ready-marked c.args.scene.now (jobs_of c.args.claims.now) c.args.failed.now c.requires.ready c.args.i (sym c.in_ok-slots.ensures.found ∙ c.in_default.is)
+returns-in_default-clause-ready g c =
+    ready-marked c.args.scene.now (jobs_of c.args.claims.now) c.args.failed.now c.requires.ready c.args.i (sym c.in_ok-slots.ensures.found ∙ c.in_default.is)
 
 pub returns-in_default-clause-paid : goal.returns-in_default-clause-paid
 returns-in_default-clause-paid g c =
     let jobs = jobs_of c.args.claims.now in
     let place = idle-within jobs c.args.i c.requires.idle in
-    fail-paid c.args.scene.now.moment (stock_in c.args.scene.now) (settings_in c.args.scene.now) jobs c.args.failed.now c.args.i c.requires.idle c.if-failed-i.false (omega (arith, place, c.requires.ready.marks))
-    (counts c.args.tops.now c.args.entry.now (c.args.touch.now + c.args.clusters.now.looks.saved)) (counts c.search.new.tops c.search.new.entry (c.search.new.touch + c.search.new.clusters.looks.saved)) c.search.ensures.counted
+    fail-paid c.args.scene.now.moment (stock_in c.args.scene.now) (settings_in c.args.scene.now) jobs c.args.failed.now c.args.i c.requires.idle
+    c.if-failed-i.false (omega (arith, place, c.requires.ready.marks))
+    (counts c.args.tops.now c.args.entry.now (c.args.touch.now + c.args.clusters.now.looks.saved))
+    (counts c.search.new.tops c.search.new.entry (c.search.new.touch + c.search.new.clusters.looks.saved)) c.search.ensures.counted
 
 pub returns-in_default-clause-within : goal.returns-in_default-clause-within
 returns-in_default-clause-within g c =
     let jobs = jobs_of c.args.claims.now in
     let place = idle-within jobs c.args.i c.requires.idle in
-    search-within c.args.scene.now.moment (stock_in c.args.scene.now) (settings_in c.args.scene.now) jobs c.args.failed.now c.args.i c.requires.idle c.if-failed-i.false (omega (arith, place, c.requires.ready.marks))
-    (counts c.args.tops.now c.args.entry.now (c.args.touch.now + c.args.clusters.now.looks.saved)) (counts c.search.new.tops c.search.new.entry (c.search.new.touch + c.search.new.clusters.looks.saved)) c.search.ensures.counted
+    search-within c.args.scene.now.moment (stock_in c.args.scene.now) (settings_in c.args.scene.now) jobs c.args.failed.now c.args.i c.requires.idle
+    c.if-failed-i.false (omega (arith, place, c.requires.ready.marks))
+    (counts c.args.tops.now c.args.entry.now (c.args.touch.now + c.args.clusters.now.looks.saved))
+    (counts c.search.new.tops c.search.new.entry (c.search.new.touch + c.search.new.clusters.looks.saved)) c.search.ensures.counted
 
 pub returns-in_default-clause-clusters : goal.returns-in_default-clause-clusters
 returns-in_default-clause-clusters g c = c.search.ensures.clusters
@@ -127,46 +135,71 @@ pub give-requires-clause-distinct : goal.give-requires-clause-distinct
 give-requires-clause-distinct g c = subst (λ o. IfSome o (AllPairs (λ (a b : ℕ). a ≢ b))) c.in-Some.is c.in_ok-slots.ensures.distinct
 
 pub give-requires-clause-enough : goal.give-requires-clause-enough
-give-requires-clause-enough g c = subst (λ o. IfSome o (λ (list : List ℕ). option_map (λ (job : Job). wanted job.request) (slice_get (jobs_of c.args.claims.now) c.args.i) ≡ Some (length list))) c.in-Some.is c.in_ok-slots.ensures.enough
+give-requires-clause-enough g c =
+    subst (λ o. IfSome o (λ (list : List ℕ). option_map (λ (job : Job). wanted job.request) (slice_get (jobs_of c.args.claims.now) c.args.i)
+    ≡ Some (length list))) c.in-Some.is c.in_ok-slots.ensures.enough
 
-pub returns-in_err-give-clause-err : goal.returns-in_err-give-clause-err
-returns-in_err-give-clause-err g c = on_err _ c.in_err-give.ensures.err
+pub overflow_sub-clusters : goal.overflow_sub-clusters
+overflow_sub-clusters g c =
+    let scene = c.args.scene.now in
+    let jobs = jobs_of c.args.claims.now in
+    let slots = c.in-Some.slots in
+    let is_found : found scene.moment (stock_in scene) (settings_in scene) jobs c.args.i ≡ Some slots = sym c.in_ok-slots.ensures.found ∙ c.in-Some.is in
+    let fewer = free-given scene jobs c.args.i slots c.free_in-taken.result c.requires.idle c.slots_are_apart.ensures
+    (subst (λ o. IfSome o (AllPairs (λ (a b : ℕ). a ≢ b))) c.in-Some.is c.in_ok-slots.ensures.distinct) is_found
+    (c.free_in-taken.ensures ∙ ap (count_by (is_free jobs)) c.as_slice.ensures) in
+    omega (arith, fewer, c.search.ensures.clusters.free)
 
-pub returns-in_err-give-clause-ready : goal.returns-in_err-give-clause-ready
-returns-in_err-give-clause-ready g c = subst (λ js. IsReady c.args.scene.now js c.args.failed.now) (sym c.in_err-give.ensures.err) c.requires.ready
+pub returns-in_err-offered-clause-err : goal.returns-in_err-offered-clause-err
+returns-in_err-offered-clause-err g c = on_err _ c.in_err-offered.ensures.err
 
-pub returns-in_err-give-clause-clusters : goal.returns-in_err-give-clause-clusters
-returns-in_err-give-clause-clusters g c = same-clusters c.args.scene.now c.in_err-give.ensures.err refl c.search.ensures.clusters
+pub returns-in_err-offered-clause-ready : goal.returns-in_err-offered-clause-ready
+returns-in_err-offered-clause-ready g c = subst (λ js. IsReady c.args.scene.now js c.args.failed.now) (sym c.in_err-offered.ensures.err) c.requires.ready
 
-pub returns-in_err-give-clause-within : goal.returns-in_err-give-clause-within
-returns-in_err-give-clause-within g c =
+pub returns-in_err-offered-clause-clusters : goal.returns-in_err-offered-clause-clusters
+returns-in_err-offered-clause-clusters g c = same-clusters c.args.scene.now c.in_err-offered.ensures.err refl c.search.ensures.clusters
+
+pub returns-in_err-offered-clause-within : goal.returns-in_err-offered-clause-within
+returns-in_err-offered-clause-within g c =
     let jobs = jobs_of c.args.claims.now in
     let place = idle-within jobs c.args.i c.requires.idle in
-    search-within c.args.scene.now.moment (stock_in c.args.scene.now) (settings_in c.args.scene.now) jobs c.args.failed.now c.args.i c.requires.idle c.if-failed-i.false (omega (arith, place, c.requires.ready.marks))
-    (counts c.args.tops.now c.args.entry.now (c.args.touch.now + c.args.clusters.now.looks.saved)) (counts c.search.new.tops c.search.new.entry (c.search.new.touch + c.search.new.clusters.looks.saved)) c.search.ensures.counted
+    search-within c.args.scene.now.moment (stock_in c.args.scene.now) (settings_in c.args.scene.now) jobs c.args.failed.now c.args.i c.requires.idle
+    c.if-failed-i.false (omega (arith, place, c.requires.ready.marks))
+    (counts c.args.tops.now c.args.entry.now (c.args.touch.now + c.args.clusters.now.looks.saved))
+    (counts c.search.new.tops c.search.new.entry (c.search.new.touch + c.search.new.clusters.looks.saved)) c.search.ensures.counted
 
-pub returns-in_err-give-clause-ratio : goal.returns-in_err-give-clause-ratio
-returns-in_err-give-clause-ratio g c = c.search.ensures.ratio
+pub returns-in_err-offered-clause-ratio : goal.returns-in_err-offered-clause-ratio
+returns-in_err-offered-clause-ratio g c = c.search.ensures.ratio
 
 pub returns-clause-offered : goal.returns-clause-offered
 returns-clause-offered g c =
     let jobs = jobs_of c.args.claims.now in
-    ap Some c.in_ok-give.ensures.offered ∙ sym (ap (option_map (λ slots. offer_named jobs (offer c.args.i slots))) (sym c.in_ok-slots.ensures.found ∙ c.in-Some.is))
+    ap Some c.in_ok-offered.ensures.offered ∙ sym (ap (option_map (λ slots. offer_named jobs (offer c.args.i slots)))
+    (sym c.in_ok-slots.ensures.found ∙ c.in-Some.is))
 
 pub returns-clause-table : goal.returns-clause-table
 returns-clause-table g c =
     let jobs = jobs_of c.args.claims.now in
-    c.in_ok-give.ensures.ok ∙ sym (ap (λ o. option_map_or (λ slots. with_standing jobs c.args.i (Stage.Matched slots)) o jobs) (sym c.in_ok-slots.ensures.found ∙ c.in-Some.is))
+    c.in_ok-offered.ensures.ok ∙ sym (ap (λ o. option_map_or (λ slots. with_standing jobs c.args.i (Stage.Matched slots)) o jobs)
+    (sym c.in_ok-slots.ensures.found ∙ c.in-Some.is))
 
 pub returns-clause-ready : goal.returns-clause-ready
 returns-clause-ready g c =
-    subst (λ js. IsReady c.args.scene.now js c.args.failed.now) (sym c.in_ok-give.ensures.ok)
+    subst (λ js. IsReady c.args.scene.now js c.args.failed.now) (sym c.in_ok-offered.ensures.ok)
     (ready-given c.args.scene.now (jobs_of c.args.claims.now) c.args.failed.now c.requires.ready c.args.i c.in-Some.slots c.requires.idle)
 
 pub returns-clause-clusters : goal.returns-clause-clusters
 returns-clause-clusters g c =
-    same-clusters c.args.scene.now c.in_ok-give.ensures.ok refl
-    (clusters-later c.args.scene.now.moment (stock_in c.args.scene.now) (settings_in c.args.scene.now) (jobs_of c.args.claims.now) c.args.i c.in-Some.slots c.requires.idle c.search.new.clusters c.search.ensures.clusters)
+    let scene = c.args.scene.now in
+    let jobs = jobs_of c.args.claims.now in
+    let slots = c.in-Some.slots in
+    let is_found : found scene.moment (stock_in scene) (settings_in scene) jobs c.args.i ≡ Some slots = sym c.in_ok-slots.ensures.found ∙ c.in-Some.is in
+    let fewer = free-given scene jobs c.args.i slots c.free_in-taken.result c.requires.idle c.slots_are_apart.ensures
+    (subst (λ o. IfSome o (AllPairs (λ (a b : ℕ). a ≢ b))) c.in-Some.is c.in_ok-slots.ensures.distinct) is_found
+    (c.free_in-taken.ensures ∙ ap (count_by (is_free jobs)) c.as_slice.ensures) in
+    same-clusters scene c.in_ok-offered.ensures.ok refl
+    (clusters-later scene.moment (stock_in scene) (settings_in scene) jobs c.args.i slots c.requires.idle c.search.new.clusters c.free_in-taken.result fewer
+    c.search.ensures.clusters)
 
 pub returns-clause-paid : goal.returns-clause-paid
 returns-clause-paid g c =
@@ -174,15 +207,19 @@ returns-clause-paid g c =
     let place = idle-within jobs c.args.i c.requires.idle in
     let x = counts c.args.tops.now c.args.entry.now (c.args.touch.now + c.args.clusters.now.looks.saved) in
     let y = counts c.search.new.tops c.search.new.entry (c.search.new.touch + c.search.new.clusters.looks.saved) in
-    subst (λ js. ArePaid c.args.scene.now.moment (stock_in c.args.scene.now) (settings_in c.args.scene.now) jobs js c.args.failed.now c.args.failed.now x y) (sym c.in_ok-give.ensures.ok)
-    (offer-paid c.args.scene.now.moment (stock_in c.args.scene.now) (settings_in c.args.scene.now) jobs c.args.failed.now c.args.i c.requires.idle c.if-failed-i.false (omega (arith, place, c.requires.ready.marks)) x y c.search.ensures.counted c.in-Some.slots)
+    subst (λ js. ArePaid c.args.scene.now.moment (stock_in c.args.scene.now) (settings_in c.args.scene.now) jobs js c.args.failed.now c.args.failed.now x y)
+    (sym c.in_ok-offered.ensures.ok)
+    (offer-paid c.args.scene.now.moment (stock_in c.args.scene.now) (settings_in c.args.scene.now) jobs c.args.failed.now c.args.i c.requires.idle
+    c.if-failed-i.false (omega (arith, place, c.requires.ready.marks)) x y c.search.ensures.counted c.in-Some.slots)
 
 pub returns-clause-within : goal.returns-clause-within
 returns-clause-within g c =
     let jobs = jobs_of c.args.claims.now in
     let place = idle-within jobs c.args.i c.requires.idle in
-    search-within c.args.scene.now.moment (stock_in c.args.scene.now) (settings_in c.args.scene.now) jobs c.args.failed.now c.args.i c.requires.idle c.if-failed-i.false (omega (arith, place, c.requires.ready.marks))
-    (counts c.args.tops.now c.args.entry.now (c.args.touch.now + c.args.clusters.now.looks.saved)) (counts c.search.new.tops c.search.new.entry (c.search.new.touch + c.search.new.clusters.looks.saved)) c.search.ensures.counted
+    search-within c.args.scene.now.moment (stock_in c.args.scene.now) (settings_in c.args.scene.now) jobs c.args.failed.now c.args.i c.requires.idle
+    c.if-failed-i.false (omega (arith, place, c.requires.ready.marks))
+    (counts c.args.tops.now c.args.entry.now (c.args.touch.now + c.args.clusters.now.looks.saved))
+    (counts c.search.new.tops c.search.new.entry (c.search.new.touch + c.search.new.clusters.looks.saved)) c.search.ensures.counted
 
 pub returns-clause-ratio : goal.returns-clause-ratio
 returns-clause-ratio g c = c.search.ensures.ratio

@@ -1,13 +1,14 @@
-use Rattle.std.proofs.Common.{◌≤◌, Bool, List, ℕ, ap, arith, false, replicate, subst, sym, ◌∙◌, ◌+◌}
+use Rattle.std.proofs.Common.{◌≤◌, All, Bool, List, ℕ, ap, arith, false, replicate, subst, sym, ◌∙◌, ◌+◌}
 use Rattle.ad_store.specs.Store.{stock_of}
 use Rattle.claim_table.specs.Table.{jobs_of}
 use Rattle.negotiator.specs.declared.queues.Queue.{Queue}
 use Rattle.negotiator.specs.Budget.{counts, is_marked}
 use Rattle.negotiator.specs.Markets.{market_of}
-use Rattle.negotiator.specs.Queues.{AreQueues}
+use Rattle.negotiator.specs.Queues.{AreQueues, IsAhead}
 use Rattle.claim_table.specs.Settings.{settings_of}
 use Rattle.negotiator.proofs.BudgetLemmas.{entries-start, evaluations-start, looks-start, none-marked}
 use Rattle.negotiator.proofs.ClusterLemmas.{no-clusters}
+use Rattle.negotiator.proofs.HeadLemmas.{fresh-ahead}
 use Rattle.negotiator.proofs.ReadyLemmas.{ready-start}
 use Rattle.negotiator.proofs.SpinLoopLemmas.{on_err, part-none}
 use Rattle.negotiator.proofs.StoredLemmas.{cycle-stored}
@@ -27,40 +28,57 @@ returns-in_err-failed-clause-stored g c = cycle-stored c.args.store.now c.args.m
 
 pub run_spins-requires-clause-queues : goal.run_spins-requires-clause-queues
 run_spins-requires-clause-queues g c =
-    subst (λ (queues : List Queue). AreQueues (market_of c.args.moment (stock_of c.args.store.now) (settings_of c.args.priorities.now) (jobs_of c.args.claims.now)) queues) (sym c.deref.ensures.value) c.in_ok-queues.ensures
+    subst (λ (queues : List Queue). AreQueues (market_of c.args.moment (stock_of c.args.store.now) (settings_of c.args.priorities.now)
+    (jobs_of c.args.claims.now)) queues) (sym c.deref_mut.ensures.value) c.in_ok-queues.ensures.are
+
+pub run_spins-requires-clause-ahead : goal.run_spins-requires-clause-ahead
+run_spins-requires-clause-ahead g c =
+    let jobs = jobs_of c.args.claims.now in
+    subst (All (IsAhead jobs c.deref_mut-2.result.now)) (sym c.deref_mut.ensures.value)
+    (fresh-ahead (market_of c.args.moment (stock_of c.args.store.now) (settings_of c.args.priorities.now) jobs) jobs c.deref_mut-2.result.now
+    c.in_ok-queues.queues.items c.in_ok-queues.ensures)
 
 pub run_spins-requires-clause-ready : goal.run_spins-requires-clause-ready
 run_spins-requires-clause-ready g c =
-    let none = c.deref_mut.ensures.value ∙ c.in_ok-failed.ensures in
-    ready-start _ (jobs_of c.args.claims.now) c.deref_mut.result.now c.requires.index c.requires.stored c.requires.ports (subst (λ (n : ℕ). n ≤ 10000) c.len.ensures.len c.len.ensures.few)
+    let none = c.deref_mut-2.ensures.value ∙ c.in_ok-failed.ensures in
+    ready-start _ (jobs_of c.args.claims.now) c.deref_mut-2.result.now c.requires.index c.requires.stored c.requires.ports
+    (subst (λ (n : ℕ). n ≤ 10000) c.len.ensures.len c.len.ensures.few)
     (none ∙ ap (λ (n : ℕ). replicate n false) c.len.ensures.len)
 
 pub run_spins-requires-clause-clusters : goal.run_spins-requires-clause-clusters
 run_spins-requires-clause-clusters g c =
-    no-clusters c.args.moment (stock_of c.args.store.now) (settings_of c.args.priorities.now) (jobs_of c.args.claims.now) c.new-clusters.result c.new-clusters.ensures.reach c.new-clusters.ensures.classes (c.new-clusters.ensures.known c.args.moment (stock_of c.args.store.now).ads)
+    no-clusters c.args.moment (stock_of c.args.store.now) (settings_of c.args.priorities.now) (jobs_of c.args.claims.now) c.new-clusters.result
+    c.new-clusters.ensures.reach c.new-clusters.ensures.classes (c.new-clusters.ensures.known c.args.moment (stock_of c.args.store.now).ads)
+    (c.new-clusters.ensures.free ∙ c.free_count.ensures.free) (omega (arith, c.new-clusters.ensures.free, c.free_count.ensures.few))
 
 pub returns-clause-stored : goal.returns-clause-stored
 returns-clause-stored g c = cycle-stored c.args.store.now c.args.moment (settings_of c.args.priorities.now) (jobs_of c.args.claims.now)
 
 pub returns-clause-evaluations : goal.returns-clause-evaluations
 returns-clause-evaluations g c =
-    let none = c.deref_mut.ensures.value ∙ c.in_ok-failed.ensures in
-    evaluations-start c.args.moment (stock_of c.args.store.now) (settings_of c.args.priorities.now) (jobs_of c.args.claims.now) c.deref_mut.result.now (λ k. ap (λ (f : List Bool). is_marked f k) none ∙ none-marked c.len.result k)
-    (counts c.args.tops.now c.args.entry.now (c.args.touch.now + c.new-clusters.result.looks.saved)) (counts c.run_spins.new.tops c.run_spins.new.entry (c.run_spins.new.touch + c.run_spins.new.clusters.looks.saved)) c.run_spins.ensures.within
+    let none = c.deref_mut-2.ensures.value ∙ c.in_ok-failed.ensures in
+    evaluations-start c.args.moment (stock_of c.args.store.now) (settings_of c.args.priorities.now) (jobs_of c.args.claims.now) c.deref_mut-2.result.now
+    (λ k. ap (λ (f : List Bool). is_marked f k) none ∙ none-marked c.len.result k)
+    (counts c.args.tops.now c.args.entry.now (c.args.touch.now + c.new-clusters.result.looks.saved))
+    (counts c.run_spins.new.tops c.run_spins.new.entry (c.run_spins.new.touch + c.run_spins.new.clusters.looks.saved)) c.run_spins.ensures.within
 
 pub returns-clause-entries : goal.returns-clause-entries
 returns-clause-entries g c =
-    let none = c.deref_mut.ensures.value ∙ c.in_ok-failed.ensures in
-    entries-start c.args.moment (stock_of c.args.store.now) (settings_of c.args.priorities.now) (jobs_of c.args.claims.now) c.deref_mut.result.now (λ k. ap (λ (f : List Bool). is_marked f k) none ∙ none-marked c.len.result k)
-    (counts c.args.tops.now c.args.entry.now (c.args.touch.now + c.new-clusters.result.looks.saved)) (counts c.run_spins.new.tops c.run_spins.new.entry (c.run_spins.new.touch + c.run_spins.new.clusters.looks.saved)) c.run_spins.ensures.within
+    let none = c.deref_mut-2.ensures.value ∙ c.in_ok-failed.ensures in
+    entries-start c.args.moment (stock_of c.args.store.now) (settings_of c.args.priorities.now) (jobs_of c.args.claims.now) c.deref_mut-2.result.now
+    (λ k. ap (λ (f : List Bool). is_marked f k) none ∙ none-marked c.len.result k)
+    (counts c.args.tops.now c.args.entry.now (c.args.touch.now + c.new-clusters.result.looks.saved))
+    (counts c.run_spins.new.tops c.run_spins.new.entry (c.run_spins.new.touch + c.run_spins.new.clusters.looks.saved)) c.run_spins.ensures.within
 
 pub returns-clause-looks : goal.returns-clause-looks
 returns-clause-looks g c =
-    let none = c.deref_mut.ensures.value ∙ c.in_ok-failed.ensures in
+    let none = c.deref_mut-2.ensures.value ∙ c.in_ok-failed.ensures in
     let nothing = c.new-clusters.ensures.saved in
     omega (
       arith,
       nothing,
-      looks-start c.args.moment (stock_of c.args.store.now) (settings_of c.args.priorities.now) (jobs_of c.args.claims.now) c.deref_mut.result.now (λ k. ap (λ (f : List Bool). is_marked f k) none ∙ none-marked c.len.result k)
-          (counts c.args.tops.now c.args.entry.now (c.args.touch.now + c.new-clusters.result.looks.saved)) (counts c.run_spins.new.tops c.run_spins.new.entry (c.run_spins.new.touch + c.run_spins.new.clusters.looks.saved)) c.run_spins.ensures.within,
+      looks-start c.args.moment (stock_of c.args.store.now) (settings_of c.args.priorities.now) (jobs_of c.args.claims.now) c.deref_mut-2.result.now
+          (λ k. ap (λ (f : List Bool). is_marked f k) none ∙ none-marked c.len.result k)
+          (counts c.args.tops.now c.args.entry.now (c.args.touch.now + c.new-clusters.result.looks.saved))
+          (counts c.run_spins.new.tops c.run_spins.new.entry (c.run_spins.new.touch + c.run_spins.new.clusters.looks.saved)) c.run_spins.ensures.within,
     )

@@ -11,49 +11,76 @@ use Rattle.negotiator.proofs.BudgetLemmas.{paid-none, paid-on, paid-within, with
 use Rattle.negotiator.proofs.ClusterLemmas.{same-clusters, with-saved}
 use Rattle.negotiator.proofs.SmallLemmas.{small-offers}
 use Rattle.negotiator.proofs.SpinLoopLemmas.{on_err}
-use Rattle.negotiator.proofs.TurnLoopLemmas.{TurnLoop, ended-all, ended-offers, ended-table, in-slice-either, length-here, loop-same, over-slice, own-place, own-turn, own-within, stopped, tried-none, tried-some, tried-stopped, turn-passes, turn-start, turn-stops, wants-here}
-use Rattle.negotiator.proofs.turns.run_turn.Goals.{then-is_idle+else-given+in_ok-offer+in-Some+in_ok-push, then-is_idle+else-given+in_ok-offer+in_default, else-is_idle}
+use Rattle.negotiator.proofs.TurnLoopLemmas.{TurnLoop, ended-all, ended-offers, ended-table, in-slice-either, length-here, loop-same, over-slice, own-place}
+use Rattle.negotiator.proofs.TurnLoopLemmas.{own-turn, own-within, stopped, tried-none, tried-some, tried-stopped, turn-passes, turn-start, turn-stops}
+use Rattle.negotiator.proofs.TurnLoopLemmas.{wants-here}
+use Rattle.negotiator.proofs.turns.run_turn.Goals.{then-is_idle+else-given+in_ok-offer+in-Some+in_ok-push, then-is_idle+else-given+in_ok-offer+in_default}
+use Rattle.negotiator.proofs.turns.run_turn.Goals.{else-is_idle}
 use Rattle.negotiator.proofs.turns.run_turn.Goals as goal
 
 pub loop-place-init : goal.loop-place-init
 loop-place-init g c =
     let began = jobs_of c.args.claims.now in
     let start = counts c.args.tops.now c.args.entry.now (c.args.touch.now + c.args.clusters.now.looks.saved) in
-    let items = c.as_slice-place-items.result.now in
+    let items = c.rest-place-items.result.now in
     record {
-      turn = subst (λ (list : List Offered). TurnLoop c.args.scene.now began c.args.queue.now.user items c.args.slice c.args.failed.now start 0 c.args.slice false list began c.args.failed.now start) (sym c.new-offers.ensures)
-          (turn-start c.args.scene.now began c.args.queue.now.user items c.args.slice c.args.failed.now start c.requires.ready (paid-none c.args.scene.now.moment (stock_in c.args.scene.now) (settings_in c.args.scene.now) began c.args.failed.now start));
+      turn = subst (λ (list : List Offered). TurnLoop c.args.scene.now began c.args.queue.now.user items c.args.slice c.args.failed.now start 0 c.args.slice
+          false list began c.args.failed.now start) (sym c.new-offers.ensures)
+          (turn-start c.args.scene.now began c.args.queue.now.user items c.args.slice c.args.failed.now start c.requires.ready
+          (paid-none c.args.scene.now.moment (stock_in c.args.scene.now) (settings_in c.args.scene.now) began c.args.failed.now start));
       clusters = c.requires.clusters;
       ratio = λ ads small. omega arith;
     }
 
 pub is_idle-requires : goal.is_idle-requires
 is_idle-requires g c =
-    let within = own-within c.args.scene.now (jobs_of c.args.claims.now) c.args.queue.now.user c.as_slice-place-items.result.now c.loop-place.place-index (c.as_slice-place-items.ensures ∙ c.requires.own) c.loop-place-test.true in
+    let within =
+    own-within c.args.scene.now (jobs_of c.args.claims.now) c.args.queue.now.user c.args.failed.now c.rest-place-items.result.now c.loop-place.place-index
+    (record { queue = c.args.queue.now; from = c.rest-place-items.ensures; own = c.requires.own; ahead = c.requires.ahead; ready = c.requires.ready })
+    c.loop-place-test.true in
     omega (arith, within, length-here c.args.scene.now (jobs_of c.args.claims.now) c.loop-place.invariant.turn)
 
 pub wants-wants-requires : goal.wants-wants-requires
 wants-wants-requires g c =
-    let within = own-within c.args.scene.now (jobs_of c.args.claims.now) c.args.queue.now.user c.as_slice-place-items.result.now c.loop-place.place-index (c.as_slice-place-items.ensures ∙ c.requires.own) c.loop-place-test.true in
+    let within =
+    own-within c.args.scene.now (jobs_of c.args.claims.now) c.args.queue.now.user c.args.failed.now c.rest-place-items.result.now c.loop-place.place-index
+    (record { queue = c.args.queue.now; from = c.rest-place-items.ensures; own = c.requires.own; ahead = c.requires.ahead; ready = c.requires.ready })
+    c.loop-place-test.true in
     omega (arith, within, length-here c.args.scene.now (jobs_of c.args.claims.now) c.loop-place.invariant.turn)
 
 pub returns-then-left-wants-clause-offers : goal.returns-then-left-wants-clause-offers
 returns-then-left-wants-clause-offers g c =
-    let items = c.as_slice-place-items.result.now in
+    let items = c.rest-place-items.result.now in
     let i = get_or items c.loop-place.place-index 0 in
-    let own = own-place c.args.scene.now (jobs_of c.args.claims.now) c.args.queue.now.user items c.loop-place.place-index (c.as_slice-place-items.ensures ∙ c.requires.own) c.loop-place-test.true in
+    let own =
+    own-place c.args.scene.now (jobs_of c.args.claims.now) c.args.queue.now.user c.args.failed.now items c.loop-place.place-index
+    (record { queue = c.args.queue.now; from = c.rest-place-items.ensures; own = c.requires.own; ahead = c.requires.ahead; ready = c.requires.ready })
+    c.loop-place-test.true in
     let wants_is = wants-here c.args.scene.now (jobs_of c.args.claims.now) c.loop-place.invariant.turn i c.wants-wants.result c.wants-wants.ensures in
-    ended-offers c.args.scene.now (jobs_of c.args.claims.now) c.loop-place.invariant.turn (turn-stops c.args.scene.now (jobs_of c.args.claims.now) c.loop-place.invariant.turn i c.loop-place-test.true refl own (sym c.is_idle.ensures ∙ c.if-is_idle.true) (over-slice c.loop-place.given c.loop-place.left c.wants-wants.result _ wants_is c.if-given.true c.if-left-wants.true))
-    ∙ ap (map (offer_named (jobs_of c.args.claims.now))) (own-turn c.args.scene.now (jobs_of c.args.claims.now) c.args.queue.now.user c.as_slice-place-items.result.now c.args.slice (c.as_slice-place-items.ensures ∙ c.requires.own))
+    ended-offers c.args.scene.now (jobs_of c.args.claims.now) c.loop-place.invariant.turn
+    (turn-stops c.args.scene.now (jobs_of c.args.claims.now) c.loop-place.invariant.turn i c.loop-place-test.true refl own
+    (sym c.is_idle.ensures ∙ c.if-is_idle.true)
+    (over-slice c.loop-place.given c.loop-place.left c.wants-wants.result _ wants_is c.if-given.true c.if-left-wants.true))
+    ∙ ap (map (offer_named (jobs_of c.args.claims.now)))
+    (own-turn c.args.scene.now (jobs_of c.args.claims.now) c.args.queue.now.user c.args.failed.now c.rest-place-items.result.now c.args.slice
+    (record { queue = c.args.queue.now; from = c.rest-place-items.ensures; own = c.requires.own; ahead = c.requires.ahead; ready = c.requires.ready }))
 
 pub returns-then-left-wants-clause-table : goal.returns-then-left-wants-clause-table
 returns-then-left-wants-clause-table g c =
-    let items = c.as_slice-place-items.result.now in
+    let items = c.rest-place-items.result.now in
     let i = get_or items c.loop-place.place-index 0 in
-    let own = own-place c.args.scene.now (jobs_of c.args.claims.now) c.args.queue.now.user items c.loop-place.place-index (c.as_slice-place-items.ensures ∙ c.requires.own) c.loop-place-test.true in
+    let own =
+    own-place c.args.scene.now (jobs_of c.args.claims.now) c.args.queue.now.user c.args.failed.now items c.loop-place.place-index
+    (record { queue = c.args.queue.now; from = c.rest-place-items.ensures; own = c.requires.own; ahead = c.requires.ahead; ready = c.requires.ready })
+    c.loop-place-test.true in
     let wants_is = wants-here c.args.scene.now (jobs_of c.args.claims.now) c.loop-place.invariant.turn i c.wants-wants.result c.wants-wants.ensures in
-    ended-table c.args.scene.now (jobs_of c.args.claims.now) c.loop-place.invariant.turn (turn-stops c.args.scene.now (jobs_of c.args.claims.now) c.loop-place.invariant.turn i c.loop-place-test.true refl own (sym c.is_idle.ensures ∙ c.if-is_idle.true) (over-slice c.loop-place.given c.loop-place.left c.wants-wants.result _ wants_is c.if-given.true c.if-left-wants.true))
-    ∙ ap (λ (os : List (Offer ℕ)). with_offers os (jobs_of c.args.claims.now)) (own-turn c.args.scene.now (jobs_of c.args.claims.now) c.args.queue.now.user c.as_slice-place-items.result.now c.args.slice (c.as_slice-place-items.ensures ∙ c.requires.own))
+    ended-table c.args.scene.now (jobs_of c.args.claims.now) c.loop-place.invariant.turn
+    (turn-stops c.args.scene.now (jobs_of c.args.claims.now) c.loop-place.invariant.turn i c.loop-place-test.true refl own
+    (sym c.is_idle.ensures ∙ c.if-is_idle.true)
+    (over-slice c.loop-place.given c.loop-place.left c.wants-wants.result _ wants_is c.if-given.true c.if-left-wants.true))
+    ∙ ap (λ (os : List (Offer ℕ)). with_offers os (jobs_of c.args.claims.now))
+    (own-turn c.args.scene.now (jobs_of c.args.claims.now) c.args.queue.now.user c.args.failed.now c.rest-place-items.result.now c.args.slice
+    (record { queue = c.args.queue.now; from = c.rest-place-items.ensures; own = c.requires.own; ahead = c.requires.ahead; ready = c.requires.ready }))
 
 pub returns-then-left-wants-clause-clusters : goal.returns-then-left-wants-clause-clusters
 returns-then-left-wants-clause-clusters g c = c.loop-place.invariant.clusters
@@ -66,7 +93,9 @@ returns-then-left-wants-clause-paid g c = c.loop-place.invariant.turn.paid
 
 pub returns-then-left-wants-clause-within : goal.returns-then-left-wants-clause-within
 returns-then-left-wants-clause-within g c =
-    paid-within c.args.scene.now.moment (stock_in c.args.scene.now) (settings_in c.args.scene.now) (jobs_of c.args.claims.now) (jobs_of c.loop-place.claims) c.args.failed.now c.loop-place.failed (counts c.args.tops.now c.args.entry.now (c.args.touch.now + c.args.clusters.now.looks.saved)) (counts c.loop-place.tops c.loop-place.entry (c.loop-place.touch + c.loop-place.clusters.looks.saved)) c.loop-place.invariant.turn.paid
+    paid-within c.args.scene.now.moment (stock_in c.args.scene.now) (settings_in c.args.scene.now) (jobs_of c.args.claims.now) (jobs_of c.loop-place.claims)
+    c.args.failed.now c.loop-place.failed (counts c.args.tops.now c.args.entry.now (c.args.touch.now + c.args.clusters.now.looks.saved))
+    (counts c.loop-place.tops c.loop-place.entry (c.loop-place.touch + c.loop-place.clusters.looks.saved)) c.loop-place.invariant.turn.paid
 
 pub returns-then-left-wants-clause-ratio : goal.returns-then-left-wants-clause-ratio
 returns-then-left-wants-clause-ratio g c = c.loop-place.invariant.ratio
@@ -83,7 +112,9 @@ try_job-requires-clause-ready g c = c.loop-place.invariant.turn.ready
 pub returns-in_err-offer-clause-part : goal.returns-in_err-offer-clause-part
 returns-in_err-offer-clause-part g c =
     let began = jobs_of c.args.claims.now in
-    on_err _ (subst (λ (os : List (Offer ℕ)). IsPart os (jobs_of c.args.claims.now) (jobs_of c.try_job.new.claims)) (own-turn c.args.scene.now (jobs_of c.args.claims.now) c.args.queue.now.user c.as_slice-place-items.result.now c.args.slice (c.as_slice-place-items.ensures ∙ c.requires.own))
+    on_err _ (subst (λ (os : List (Offer ℕ)). IsPart os (jobs_of c.args.claims.now) (jobs_of c.try_job.new.claims))
+    (own-turn c.args.scene.now (jobs_of c.args.claims.now) c.args.queue.now.user c.args.failed.now c.rest-place-items.result.now c.args.slice
+    (record { queue = c.args.queue.now; from = c.rest-place-items.ensures; own = c.requires.own; ahead = c.requires.ahead; ready = c.requires.ready }))
     (subst (IsPart _ began) (sym c.in_err-offer.ensures.err) (stopped c.args.scene.now (jobs_of c.args.claims.now) c.loop-place.invariant.turn)))
 
 pub returns-in_err-offer-clause-within : goal.returns-in_err-offer-clause-within
@@ -93,21 +124,33 @@ returns-in_err-offer-clause-within g c =
     let start = counts c.args.tops.now c.args.entry.now (c.args.touch.now + c.args.clusters.now.looks.saved) in
     let now = counts c.loop-place.tops c.loop-place.entry (c.loop-place.touch + c.loop-place.clusters.looks.saved) in
     let after = counts c.try_job.new.tops c.try_job.new.entry (c.try_job.new.touch + c.try_job.new.clusters.looks.saved) in
-    within-on c.args.scene.now.moment (stock_in c.args.scene.now) (settings_in c.args.scene.now) began jobs c.args.failed.now c.loop-place.failed start now after c.loop-place.invariant.turn.paid c.in_err-offer.ensures.within
+    within-on c.args.scene.now.moment (stock_in c.args.scene.now) (settings_in c.args.scene.now) began jobs c.args.failed.now c.loop-place.failed start now
+    after c.loop-place.invariant.turn.paid c.in_err-offer.ensures.within
 
 pub returns-in_err-offer-clause-ratio : goal.returns-in_err-offer-clause-ratio
 returns-in_err-offer-clause-ratio g c ads small =
     let turn = c.loop-place.invariant.turn in
-    omega (arith, c.loop-place.invariant.ratio ads small, c.try_job.ensures.ratio ads (small-offers turn.made (jobs_of c.args.claims.now) (jobs_of c.loop-place.claims) turn.table small))
+    omega (
+      arith,
+      c.loop-place.invariant.ratio ads small,
+      c.try_job.ensures.ratio ads (small-offers turn.made (jobs_of c.args.claims.now) (jobs_of c.loop-place.claims) turn.table small),
+    )
 
 pub returns-in_err-push-clause-part : goal.returns-in_err-push-clause-part
 returns-in_err-push-clause-part g c =
-    let items = c.as_slice-place-items.result.now in
+    let items = c.rest-place-items.result.now in
     let i = get_or items c.loop-place.place-index 0 in
-    let own = own-place c.args.scene.now (jobs_of c.args.claims.now) c.args.queue.now.user items c.loop-place.place-index (c.as_slice-place-items.ensures ∙ c.requires.own) c.loop-place-test.true in
+    let own =
+    own-place c.args.scene.now (jobs_of c.args.claims.now) c.args.queue.now.user c.args.failed.now items c.loop-place.place-index
+    (record { queue = c.args.queue.now; from = c.rest-place-items.ensures; own = c.requires.own; ahead = c.requires.ahead; ready = c.requires.ready })
+    c.loop-place-test.true in
     let wants_is = wants-here c.args.scene.now (jobs_of c.args.claims.now) c.loop-place.invariant.turn i c.wants-wants.result c.wants-wants.ensures in
-    on_err _ (subst (λ (os : List (Offer ℕ)). IsPart os (jobs_of c.args.claims.now) (jobs_of c.try_job.new.claims)) (own-turn c.args.scene.now (jobs_of c.args.claims.now) c.args.queue.now.user c.as_slice-place-items.result.now c.args.slice (c.as_slice-place-items.ensures ∙ c.requires.own))
-    (tried-stopped c.args.scene.now (jobs_of c.args.claims.now) c.loop-place.invariant.turn i c.loop-place-test.true refl own (sym c.is_idle.ensures ∙ c.if-is_idle.true) (in-slice-either c.loop-place.given c.loop-place.left c.wants-wants.result _ wants_is c.else-given.either) c.in_ok-offer.field-0 c.in_ok-offer.ensures.offered (jobs_of c.try_job.new.claims) c.in_ok-offer.ensures.table c.in-Some.offer c.in-Some.is))
+    on_err _ (subst (λ (os : List (Offer ℕ)). IsPart os (jobs_of c.args.claims.now) (jobs_of c.try_job.new.claims))
+    (own-turn c.args.scene.now (jobs_of c.args.claims.now) c.args.queue.now.user c.args.failed.now c.rest-place-items.result.now c.args.slice
+    (record { queue = c.args.queue.now; from = c.rest-place-items.ensures; own = c.requires.own; ahead = c.requires.ahead; ready = c.requires.ready }))
+    (tried-stopped c.args.scene.now (jobs_of c.args.claims.now) c.loop-place.invariant.turn i c.loop-place-test.true refl own
+    (sym c.is_idle.ensures ∙ c.if-is_idle.true) (in-slice-either c.loop-place.given c.loop-place.left c.wants-wants.result _ wants_is c.else-given.either)
+    c.in_ok-offer.field-0 c.in_ok-offer.ensures.offered (jobs_of c.try_job.new.claims) c.in_ok-offer.ensures.table c.in-Some.offer c.in-Some.is))
 
 pub returns-in_err-push-clause-within : goal.returns-in_err-push-clause-within
 returns-in_err-push-clause-within g c =
@@ -116,42 +159,61 @@ returns-in_err-push-clause-within g c =
     let start = counts c.args.tops.now c.args.entry.now (c.args.touch.now + c.args.clusters.now.looks.saved) in
     let now = counts c.loop-place.tops c.loop-place.entry (c.loop-place.touch + c.loop-place.clusters.looks.saved) in
     let after = counts c.try_job.new.tops c.try_job.new.entry (c.try_job.new.touch + c.try_job.new.clusters.looks.saved) in
-    paid-within c.args.scene.now.moment (stock_in c.args.scene.now) (settings_in c.args.scene.now) began (jobs_of c.try_job.new.claims) c.args.failed.now c.try_job.new.failed start after
-    (paid-on c.args.scene.now.moment (stock_in c.args.scene.now) (settings_in c.args.scene.now) began jobs (jobs_of c.try_job.new.claims) c.args.failed.now c.loop-place.failed c.try_job.new.failed start now after c.loop-place.invariant.turn.paid c.in_ok-offer.ensures.paid)
+    paid-within c.args.scene.now.moment (stock_in c.args.scene.now) (settings_in c.args.scene.now) began (jobs_of c.try_job.new.claims) c.args.failed.now
+    c.try_job.new.failed start after
+    (paid-on c.args.scene.now.moment (stock_in c.args.scene.now) (settings_in c.args.scene.now) began jobs (jobs_of c.try_job.new.claims) c.args.failed.now
+    c.loop-place.failed c.try_job.new.failed start now after c.loop-place.invariant.turn.paid c.in_ok-offer.ensures.paid)
 
 pub returns-in_err-push-clause-ratio : goal.returns-in_err-push-clause-ratio
 returns-in_err-push-clause-ratio g c ads small =
     let turn = c.loop-place.invariant.turn in
-    omega (arith, c.loop-place.invariant.ratio ads small, c.try_job.ensures.ratio ads (small-offers turn.made (jobs_of c.args.claims.now) (jobs_of c.loop-place.claims) turn.table small))
+    omega (
+      arith,
+      c.loop-place.invariant.ratio ads small,
+      c.try_job.ensures.ratio ads (small-offers turn.made (jobs_of c.args.claims.now) (jobs_of c.loop-place.claims) turn.table small),
+    )
 
 pub loop-place-preserved : goal.loop-place-preserved
 loop-place-preserved g c =
     let scene = c.args.scene.now in
     let began = jobs_of c.args.claims.now in
-    let items = c.as_slice-place-items.result.now in
+    let items = c.rest-place-items.result.now in
     let i = get_or items c.loop-place.place-index 0 in
-    let own = own-place scene began c.args.queue.now.user items c.loop-place.place-index (c.as_slice-place-items.ensures ∙ c.requires.own) c.loop-place-test.true in
-    let here = λ (small : AreSmallJobs began). small-offers c.loop-place.invariant.turn.made began (jobs_of c.loop-place.claims) c.loop-place.invariant.turn.table small in
+    let own =
+    own-place scene began c.args.queue.now.user c.args.failed.now items c.loop-place.place-index
+    (record { queue = c.args.queue.now; from = c.rest-place-items.ensures; own = c.requires.own; ahead = c.requires.ahead; ready = c.requires.ready })
+    c.loop-place-test.true in
+    let here =
+    λ (small : AreSmallJobs began). small-offers c.loop-place.invariant.turn.made began (jobs_of c.loop-place.claims) c.loop-place.invariant.turn.table
+    small in
     record {
       turn = elim c.if-is_idle.branch [
         | then-is_idle+else-given+in_ok-offer+in-Some+in_ok-push w ↦
             let wants_is = wants-here scene began c.loop-place.invariant.turn i w.wants-wants.result w.wants-wants.ensures in
             let after = counts w.try_job.new.tops w.try_job.new.entry (w.try_job.new.touch + w.try_job.new.clusters.looks.saved) in
             loop-same scene began
-            (tried-some scene began c.loop-place.invariant.turn i c.loop-place-test.true refl own (sym c.is_idle.ensures ∙ w.if-is_idle.true) (in-slice-either c.loop-place.given c.loop-place.left w.wants-wants.result _ wants_is w.else-given.either)
+            (tried-some scene began c.loop-place.invariant.turn i c.loop-place-test.true refl own (sym c.is_idle.ensures ∙ w.if-is_idle.true)
+            (in-slice-either c.loop-place.given c.loop-place.left w.wants-wants.result _ wants_is w.else-given.either)
             w.in_ok-offer.field-0 w.in_ok-offer.ensures.offered (jobs_of w.try_job.new.claims) w.in_ok-offer.ensures.table w.in-Some.offer w.in-Some.is
-            w.wants-wants.result wants_is w.push.new.self w.in_ok-push.ensures.ok _ w.saturating_sub-left.ensures w.try_job.new.failed after w.in_ok-offer.ensures.ready w.in_ok-offer.ensures.paid)
-            w.left-is w.given-is w.offers-is (ap jobs_of w.claims-is) w.failed-is w.tops-is w.entry-is (with-saved w.touch-is (ap (λ (x : Clusters). x.looks.saved) w.clusters-is))
+            w.wants-wants.result wants_is w.push.new.self w.in_ok-push.ensures.ok _ w.saturating_sub-left.ensures w.try_job.new.failed after
+            w.in_ok-offer.ensures.ready w.in_ok-offer.ensures.paid)
+            w.left-is w.given-is w.offers-is (ap jobs_of w.claims-is) w.failed-is w.tops-is w.entry-is
+            (with-saved w.touch-is (ap (λ (x : Clusters). x.looks.saved) w.clusters-is))
         | then-is_idle+else-given+in_ok-offer+in_default w ↦
             let wants_is = wants-here scene began c.loop-place.invariant.turn i w.wants-wants.result w.wants-wants.ensures in
             let after = counts w.try_job.new.tops w.try_job.new.entry (w.try_job.new.touch + w.try_job.new.clusters.looks.saved) in
             loop-same scene began
-            (tried-none scene began c.loop-place.invariant.turn i c.loop-place-test.true refl own (sym c.is_idle.ensures ∙ w.if-is_idle.true) (in-slice-either c.loop-place.given c.loop-place.left w.wants-wants.result _ wants_is w.else-given.either)
-            w.in_ok-offer.field-0 w.in_ok-offer.ensures.offered (jobs_of w.try_job.new.claims) w.in_ok-offer.ensures.table w.in_default.is w.try_job.new.failed after w.in_ok-offer.ensures.ready w.in_ok-offer.ensures.paid)
-            w.left-is w.given-is w.offers-is (ap jobs_of w.claims-is) w.failed-is w.tops-is w.entry-is (with-saved w.touch-is (ap (λ (x : Clusters). x.looks.saved) w.clusters-is))
+            (tried-none scene began c.loop-place.invariant.turn i c.loop-place-test.true refl own (sym c.is_idle.ensures ∙ w.if-is_idle.true)
+            (in-slice-either c.loop-place.given c.loop-place.left w.wants-wants.result _ wants_is w.else-given.either)
+            w.in_ok-offer.field-0 w.in_ok-offer.ensures.offered (jobs_of w.try_job.new.claims) w.in_ok-offer.ensures.table w.in_default.is w.try_job.new.failed
+            after w.in_ok-offer.ensures.ready w.in_ok-offer.ensures.paid)
+            w.left-is w.given-is w.offers-is (ap jobs_of w.claims-is) w.failed-is w.tops-is w.entry-is
+            (with-saved w.touch-is (ap (λ (x : Clusters). x.looks.saved) w.clusters-is))
         | else-is_idle w ↦
-            loop-same scene began (turn-passes scene began c.loop-place.invariant.turn i c.loop-place-test.true refl own (sym c.is_idle.ensures ∙ w.if-is_idle.false))
-            w.left-is w.given-is w.offers-is (ap jobs_of w.claims-is) w.failed-is w.tops-is w.entry-is (with-saved w.touch-is (ap (λ (x : Clusters). x.looks.saved) w.clusters-is))
+            loop-same scene began (turn-passes scene began c.loop-place.invariant.turn i c.loop-place-test.true refl own
+            (sym c.is_idle.ensures ∙ w.if-is_idle.false))
+            w.left-is w.given-is w.offers-is (ap jobs_of w.claims-is) w.failed-is w.tops-is w.entry-is
+            (with-saved w.touch-is (ap (λ (x : Clusters). x.looks.saved) w.clusters-is))
       ];
       clusters = elim c.if-is_idle.branch [
         | then-is_idle+else-given+in_ok-offer+in-Some+in_ok-push w ↦ same-clusters scene (ap jobs_of w.claims-is) w.clusters-is w.in_ok-offer.ensures.clusters
@@ -159,21 +221,29 @@ loop-place-preserved g c =
         | else-is_idle w ↦ same-clusters scene (ap jobs_of w.claims-is) w.clusters-is c.loop-place.invariant.clusters
       ];
       ratio = λ ads small. elim c.if-is_idle.branch [
-        | then-is_idle+else-given+in_ok-offer+in-Some+in_ok-push w ↦ omega (arith, c.loop-place.invariant.ratio ads small, w.in_ok-offer.ensures.ratio ads (here small), w.tops-is, w.entry-is)
-        | then-is_idle+else-given+in_ok-offer+in_default w ↦ omega (arith, c.loop-place.invariant.ratio ads small, w.in_ok-offer.ensures.ratio ads (here small), w.tops-is, w.entry-is)
+        | then-is_idle+else-given+in_ok-offer+in-Some+in_ok-push w ↦ omega
+            (arith, c.loop-place.invariant.ratio ads small, w.in_ok-offer.ensures.ratio ads (here small), w.tops-is, w.entry-is)
+        | then-is_idle+else-given+in_ok-offer+in_default w ↦ omega
+            (arith, c.loop-place.invariant.ratio ads small, w.in_ok-offer.ensures.ratio ads (here small), w.tops-is, w.entry-is)
         | else-is_idle w ↦ omega (arith, c.loop-place.invariant.ratio ads small, w.tops-is, w.entry-is)
       ];
     }
 
 pub returns-clause-offers : goal.returns-clause-offers
 returns-clause-offers g c =
-    ended-offers c.args.scene.now (jobs_of c.args.claims.now) c.loop-place.invariant.turn (ended-all c.args.scene.now (jobs_of c.args.claims.now) c.loop-place.invariant.turn c.loop-place-test.false)
-    ∙ ap (map (offer_named (jobs_of c.args.claims.now))) (own-turn c.args.scene.now (jobs_of c.args.claims.now) c.args.queue.now.user c.as_slice-place-items.result.now c.args.slice (c.as_slice-place-items.ensures ∙ c.requires.own))
+    ended-offers c.args.scene.now (jobs_of c.args.claims.now) c.loop-place.invariant.turn
+    (ended-all c.args.scene.now (jobs_of c.args.claims.now) c.loop-place.invariant.turn c.loop-place-test.false)
+    ∙ ap (map (offer_named (jobs_of c.args.claims.now)))
+    (own-turn c.args.scene.now (jobs_of c.args.claims.now) c.args.queue.now.user c.args.failed.now c.rest-place-items.result.now c.args.slice
+    (record { queue = c.args.queue.now; from = c.rest-place-items.ensures; own = c.requires.own; ahead = c.requires.ahead; ready = c.requires.ready }))
 
 pub returns-clause-table : goal.returns-clause-table
 returns-clause-table g c =
-    ended-table c.args.scene.now (jobs_of c.args.claims.now) c.loop-place.invariant.turn (ended-all c.args.scene.now (jobs_of c.args.claims.now) c.loop-place.invariant.turn c.loop-place-test.false)
-    ∙ ap (λ (os : List (Offer ℕ)). with_offers os (jobs_of c.args.claims.now)) (own-turn c.args.scene.now (jobs_of c.args.claims.now) c.args.queue.now.user c.as_slice-place-items.result.now c.args.slice (c.as_slice-place-items.ensures ∙ c.requires.own))
+    ended-table c.args.scene.now (jobs_of c.args.claims.now) c.loop-place.invariant.turn
+    (ended-all c.args.scene.now (jobs_of c.args.claims.now) c.loop-place.invariant.turn c.loop-place-test.false)
+    ∙ ap (λ (os : List (Offer ℕ)). with_offers os (jobs_of c.args.claims.now))
+    (own-turn c.args.scene.now (jobs_of c.args.claims.now) c.args.queue.now.user c.args.failed.now c.rest-place-items.result.now c.args.slice
+    (record { queue = c.args.queue.now; from = c.rest-place-items.ensures; own = c.requires.own; ahead = c.requires.ahead; ready = c.requires.ready }))
 
 pub returns-clause-clusters : goal.returns-clause-clusters
 returns-clause-clusters g c = c.loop-place.invariant.clusters
@@ -186,7 +256,9 @@ returns-clause-paid g c = c.loop-place.invariant.turn.paid
 
 pub returns-clause-within : goal.returns-clause-within
 returns-clause-within g c =
-    paid-within c.args.scene.now.moment (stock_in c.args.scene.now) (settings_in c.args.scene.now) (jobs_of c.args.claims.now) (jobs_of c.loop-place.claims) c.args.failed.now c.loop-place.failed (counts c.args.tops.now c.args.entry.now (c.args.touch.now + c.args.clusters.now.looks.saved)) (counts c.loop-place.tops c.loop-place.entry (c.loop-place.touch + c.loop-place.clusters.looks.saved)) c.loop-place.invariant.turn.paid
+    paid-within c.args.scene.now.moment (stock_in c.args.scene.now) (settings_in c.args.scene.now) (jobs_of c.args.claims.now) (jobs_of c.loop-place.claims)
+    c.args.failed.now c.loop-place.failed (counts c.args.tops.now c.args.entry.now (c.args.touch.now + c.args.clusters.now.looks.saved))
+    (counts c.loop-place.tops c.loop-place.entry (c.loop-place.touch + c.loop-place.clusters.looks.saved)) c.loop-place.invariant.turn.paid
 
 pub returns-clause-ratio : goal.returns-clause-ratio
 returns-clause-ratio g c = c.loop-place.invariant.ratio

@@ -6,9 +6,11 @@ use Rattle.negotiator.specs.declared.answers.Turn.{Turn}
 use Rattle.negotiator.specs.declared.queues.Queue.{Queue}
 use Rattle.negotiator.specs.Budget.{counts}
 use Rattle.negotiator.specs.Cycle.{is_of, offers_in, places}
+use Rattle.negotiator.specs.Queues.{IsAhead}
 use Rattle.negotiator.specs.Scenes.{market_in, settings_in, stock_in, users_at}
 use Rattle.negotiator.proofs.ActiveLemmas.{user-here}
 use Rattle.negotiator.proofs.BudgetLemmas.{paid-none, paid-on, paid-within, within-on}
+use Rattle.negotiator.proofs.HeadLemmas.{head-later}
 use Rattle.negotiator.proofs.SmallLemmas.{small-offers}
 use Rattle.negotiator.proofs.SpinLoopLemmas.{TurnsLoop, on_err, own-here, turns-list, turns-more, turns-start, turns-stopped, turns-stopped-behind, turns-table}
 use Rattle.negotiator.proofs.turns.run_turns.Goals as goal
@@ -19,8 +21,11 @@ loop-k-init g c =
     let start = counts c.args.tops.now c.args.entry.now (c.args.touch.now + c.args.clusters.now.looks.saved) in
     let users = users_at c.args.queues.now c.args.active.now in
     record {
-      turns = subst (λ (list : List Turn). TurnsLoop c.args.scene.now began users c.args.slices.now c.args.failed.now start 0 list began c.args.failed.now start) (sym c.new-turns.ensures)
-          (turns-start c.args.scene.now began users c.args.slices.now c.args.failed.now start c.requires.ready (paid-none c.args.scene.now.moment (stock_in c.args.scene.now) (settings_in c.args.scene.now) began c.args.failed.now start));
+      turns =
+          subst (λ (list : List Turn). TurnsLoop c.args.scene.now began users c.args.slices.now c.args.failed.now start 0 list began c.args.failed.now start)
+          (sym c.new-turns.ensures)
+          (turns-start c.args.scene.now began users c.args.slices.now c.args.failed.now start c.requires.ready
+          (paid-none c.args.scene.now.moment (stock_in c.args.scene.now) (settings_in c.args.scene.now) began c.args.failed.now start));
       clusters = c.requires.clusters;
       ratio = λ ads small. omega arith;
     }
@@ -42,6 +47,14 @@ run_turn-requires-clause-own g c =
     (subst (λ (q : Queue). q.places ≡ filter (is_of market q.user) (places market.jobs)) (sym c.index-queues-active.is)
     (c.requires.own _ c.index-queues-active.result (c.requires.active c.loop-k.k 0 c.loop-k-test.true)))
 
+pub run_turn-requires-clause-ahead : goal.run_turn-requires-clause-ahead
+run_turn-requires-clause-ahead g c =
+    let began = jobs_of c.args.claims.now in
+    let jobs = jobs_of c.loop-k.claims in
+    head-later began jobs c.args.failed.now c.loop-k.failed c.index-queues-active.result c.loop-k.invariant.turns.paid.others
+    (subst (IsAhead began c.args.failed.now) (sym c.index-queues-active.is)
+    (c.requires.ahead _ c.index-queues-active.result (c.requires.active c.loop-k.k 0 c.loop-k-test.true)))
+
 pub run_turn-requires-clause-clusters : goal.run_turn-requires-clause-clusters
 run_turn-requires-clause-clusters g c = c.loop-k.invariant.clusters
 
@@ -56,8 +69,11 @@ returns-in_err-offers-clause-part g c =
     let within : c.loop-k.k < length c.args.active.now = c.loop-k-test.true in
     let us : c.loop-k.k < length users = omega (arith, long, within) in
     let ss : c.loop-k.k < length c.args.slices.now = omega (arith, within, c.requires.slices) in
-    let user = user-here c.args.queues.now c.args.active.now c.loop-k.k _ c.index-queues-active.result within refl (c.requires.active c.loop-k.k 0 within) (sym c.index-queues-active.is) in
-    on_err _ (turns-stopped c.args.scene.now began c.loop-k.invariant.turns c.index-queues-active.result.user (get_or c.args.slices.now c.loop-k.k 0) us ss user refl (jobs_of c.run_turn.new.claims) c.in_err-offers.ensures.part)
+    let user =
+    user-here c.args.queues.now c.args.active.now c.loop-k.k _ c.index-queues-active.result within refl (c.requires.active c.loop-k.k 0 within)
+    (sym c.index-queues-active.is) in
+    on_err _ (turns-stopped c.args.scene.now began c.loop-k.invariant.turns c.index-queues-active.result.user (get_or c.args.slices.now c.loop-k.k 0) us ss user
+    refl (jobs_of c.run_turn.new.claims) c.in_err-offers.ensures.part)
 
 pub returns-in_err-offers-clause-within : goal.returns-in_err-offers-clause-within
 returns-in_err-offers-clause-within g c =
@@ -66,12 +82,18 @@ returns-in_err-offers-clause-within g c =
     let start = counts c.args.tops.now c.args.entry.now (c.args.touch.now + c.args.clusters.now.looks.saved) in
     let now = counts c.loop-k.tops c.loop-k.entry (c.loop-k.touch + c.loop-k.clusters.looks.saved) in
     let after = counts c.run_turn.new.tops c.run_turn.new.entry (c.run_turn.new.touch + c.run_turn.new.clusters.looks.saved) in
-    within-on c.args.scene.now.moment (stock_in c.args.scene.now) (settings_in c.args.scene.now) began jobs c.args.failed.now c.loop-k.failed start now after c.loop-k.invariant.turns.paid c.in_err-offers.ensures.within
+    within-on c.args.scene.now.moment (stock_in c.args.scene.now) (settings_in c.args.scene.now) began jobs c.args.failed.now c.loop-k.failed start now after
+    c.loop-k.invariant.turns.paid c.in_err-offers.ensures.within
 
 pub returns-in_err-offers-clause-ratio : goal.returns-in_err-offers-clause-ratio
 returns-in_err-offers-clause-ratio g c ads small =
     let turns = c.loop-k.invariant.turns in
-    omega (arith, c.loop-k.invariant.ratio ads small, c.run_turn.ensures.ratio ads (small-offers (offers_in turns.done) (jobs_of c.args.claims.now) (jobs_of c.loop-k.claims) turns.table small))
+    omega (
+      arith,
+      c.loop-k.invariant.ratio ads small,
+      c.run_turn.ensures.ratio ads (small-offers (offers_in turns.done) (jobs_of c.args.claims.now)
+          (jobs_of c.loop-k.claims) turns.table small),
+    )
 
 pub returns-in_err-keep-clause-part : goal.returns-in_err-keep-clause-part
 returns-in_err-keep-clause-part g c =
@@ -81,8 +103,11 @@ returns-in_err-keep-clause-part g c =
     let within : c.loop-k.k < length c.args.active.now = c.loop-k-test.true in
     let us : c.loop-k.k < length users = omega (arith, long, within) in
     let ss : c.loop-k.k < length c.args.slices.now = omega (arith, within, c.requires.slices) in
-    let user = user-here c.args.queues.now c.args.active.now c.loop-k.k _ c.index-queues-active.result within refl (c.requires.active c.loop-k.k 0 within) (sym c.index-queues-active.is) in
-    on_err _ (turns-stopped-behind c.args.scene.now began c.loop-k.invariant.turns c.index-queues-active.result.user (get_or c.args.slices.now c.loop-k.k 0) us ss user refl (jobs_of c.run_turn.new.claims) c.in_ok-offers.ensures.table)
+    let user =
+    user-here c.args.queues.now c.args.active.now c.loop-k.k _ c.index-queues-active.result within refl (c.requires.active c.loop-k.k 0 within)
+    (sym c.index-queues-active.is) in
+    on_err _ (turns-stopped-behind c.args.scene.now began c.loop-k.invariant.turns c.index-queues-active.result.user (get_or c.args.slices.now c.loop-k.k 0) us
+    ss user refl (jobs_of c.run_turn.new.claims) c.in_ok-offers.ensures.table)
 
 pub returns-in_err-keep-clause-within : goal.returns-in_err-keep-clause-within
 returns-in_err-keep-clause-within g c =
@@ -91,13 +116,20 @@ returns-in_err-keep-clause-within g c =
     let start = counts c.args.tops.now c.args.entry.now (c.args.touch.now + c.args.clusters.now.looks.saved) in
     let now = counts c.loop-k.tops c.loop-k.entry (c.loop-k.touch + c.loop-k.clusters.looks.saved) in
     let after = counts c.run_turn.new.tops c.run_turn.new.entry (c.run_turn.new.touch + c.run_turn.new.clusters.looks.saved) in
-    paid-within c.args.scene.now.moment (stock_in c.args.scene.now) (settings_in c.args.scene.now) began (jobs_of c.run_turn.new.claims) c.args.failed.now c.run_turn.new.failed start after
-    (paid-on c.args.scene.now.moment (stock_in c.args.scene.now) (settings_in c.args.scene.now) began jobs (jobs_of c.run_turn.new.claims) c.args.failed.now c.loop-k.failed c.run_turn.new.failed start now after c.loop-k.invariant.turns.paid c.in_ok-offers.ensures.paid)
+    paid-within c.args.scene.now.moment (stock_in c.args.scene.now) (settings_in c.args.scene.now) began (jobs_of c.run_turn.new.claims) c.args.failed.now
+    c.run_turn.new.failed start after
+    (paid-on c.args.scene.now.moment (stock_in c.args.scene.now) (settings_in c.args.scene.now) began jobs (jobs_of c.run_turn.new.claims) c.args.failed.now
+    c.loop-k.failed c.run_turn.new.failed start now after c.loop-k.invariant.turns.paid c.in_ok-offers.ensures.paid)
 
 pub returns-in_err-keep-clause-ratio : goal.returns-in_err-keep-clause-ratio
 returns-in_err-keep-clause-ratio g c ads small =
     let turns = c.loop-k.invariant.turns in
-    omega (arith, c.loop-k.invariant.ratio ads small, c.run_turn.ensures.ratio ads (small-offers (offers_in turns.done) (jobs_of c.args.claims.now) (jobs_of c.loop-k.claims) turns.table small))
+    omega (
+      arith,
+      c.loop-k.invariant.ratio ads small,
+      c.run_turn.ensures.ratio ads (small-offers (offers_in turns.done) (jobs_of c.args.claims.now)
+          (jobs_of c.loop-k.claims) turns.table small),
+    )
 
 pub loop-k-preserved : goal.loop-k-preserved
 loop-k-preserved g c =
@@ -111,14 +143,23 @@ loop-k-preserved g c =
     let within : c.loop-k.k < length c.args.active.now = c.loop-k-test.true in
     let us : c.loop-k.k < length users = omega (arith, long, within) in
     let ss : c.loop-k.k < length c.args.slices.now = omega (arith, within, c.requires.slices) in
-    let user = user-here c.args.queues.now c.args.active.now c.loop-k.k _ c.index-queues-active.result within refl (c.requires.active c.loop-k.k 0 within) (sym c.index-queues-active.is) in
+    let user =
+    user-here c.args.queues.now c.args.active.now c.loop-k.k _ c.index-queues-active.result within refl (c.requires.active c.loop-k.k 0 within)
+    (sym c.index-queues-active.is) in
     record {
-      turns = turns-more c.args.scene.now began c.loop-k.invariant.turns c.index-queues-active.result.user (get_or c.args.slices.now c.loop-k.k 0) us ss user refl
+      turns =
+          turns-more c.args.scene.now began c.loop-k.invariant.turns c.index-queues-active.result.user (get_or c.args.slices.now c.loop-k.k 0) us ss user refl
           c.in_ok-offers.offers c.in_ok-offers.ensures.offers c.keep.new.turns c.in_ok-keep.ensures (jobs_of c.run_turn.new.claims) c.in_ok-offers.ensures.table
           c.run_turn.new.failed after c.in_ok-offers.ensures.ready
-          (paid-on c.args.scene.now.moment (stock_in c.args.scene.now) (settings_in c.args.scene.now) began jobs (jobs_of c.run_turn.new.claims) c.args.failed.now c.loop-k.failed c.run_turn.new.failed start now after c.loop-k.invariant.turns.paid c.in_ok-offers.ensures.paid);
+          (paid-on c.args.scene.now.moment (stock_in c.args.scene.now) (settings_in c.args.scene.now) began jobs (jobs_of c.run_turn.new.claims)
+          c.args.failed.now c.loop-k.failed c.run_turn.new.failed start now after c.loop-k.invariant.turns.paid c.in_ok-offers.ensures.paid);
       clusters = c.in_ok-offers.ensures.clusters;
-      ratio = λ ads small. omega (arith, c.loop-k.invariant.ratio ads small, c.run_turn.ensures.ratio ads (small-offers (offers_in c.loop-k.invariant.turns.done) began jobs c.loop-k.invariant.turns.table small));
+      ratio =
+          λ ads small. omega (
+            arith,
+            c.loop-k.invariant.ratio ads small,
+            c.run_turn.ensures.ratio ads (small-offers (offers_in c.loop-k.invariant.turns.done) began jobs c.loop-k.invariant.turns.table small),
+          );
     }
 
 pub returns-clause-turns : goal.returns-clause-turns
@@ -142,8 +183,10 @@ returns-clause-paid g c = c.loop-k.invariant.turns.paid
 
 pub returns-clause-within : goal.returns-clause-within
 returns-clause-within g c =
-    paid-within c.args.scene.now.moment (stock_in c.args.scene.now) (settings_in c.args.scene.now) (jobs_of c.args.claims.now) (jobs_of c.loop-k.claims) c.args.failed.now c.loop-k.failed
-    (counts c.args.tops.now c.args.entry.now (c.args.touch.now + c.args.clusters.now.looks.saved)) (counts c.loop-k.tops c.loop-k.entry (c.loop-k.touch + c.loop-k.clusters.looks.saved)) c.loop-k.invariant.turns.paid
+    paid-within c.args.scene.now.moment (stock_in c.args.scene.now) (settings_in c.args.scene.now) (jobs_of c.args.claims.now) (jobs_of c.loop-k.claims)
+    c.args.failed.now c.loop-k.failed
+    (counts c.args.tops.now c.args.entry.now (c.args.touch.now + c.args.clusters.now.looks.saved))
+    (counts c.loop-k.tops c.loop-k.entry (c.loop-k.touch + c.loop-k.clusters.looks.saved)) c.loop-k.invariant.turns.paid
 
 pub returns-clause-ratio : goal.returns-clause-ratio
 returns-clause-ratio g c = c.loop-k.invariant.ratio

@@ -10,7 +10,8 @@ use Rattle.negotiator.proofs.turns.run_turns.Given as goal
 
 abbrev pub invariant-loop-k : goal.invariant-loop-k
 invariant-loop-k g l = record {
-  turns : TurnsLoop l.scene (jobs_of l.fn.claims) (users_at l.queues l.active) l.slices l.fn.failed (counts l.fn.tops l.fn.entry (l.fn.touch + l.fn.clusters.looks.saved))
+  turns : TurnsLoop l.scene (jobs_of l.fn.claims) (users_at l.queues l.active) l.slices l.fn.failed
+      (counts l.fn.tops l.fn.entry (l.fn.touch + l.fn.clusters.looks.saved))
       l.k l.turns (jobs_of l.claims) l.failed (counts l.tops l.entry (l.touch + l.clusters.looks.saved));
   clusters : AreClusters l.scene.moment (stock_in l.scene) (settings_in l.scene) (jobs_of l.claims) l.clusters;
   ratio : AreSmallAds (stock_in l.scene).ads → AreSmallJobs (jobs_of l.fn.claims) → l.entry + 9216 * l.fn.tops ≤ l.fn.entry + 9216 * l.tops;

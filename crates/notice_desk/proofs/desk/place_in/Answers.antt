@@ -20,4 +20,5 @@ loop-i-preserved g c =
 
 pub returns-clause-absent : goal.returns-clause-absent
 returns-clause-absent g c =
-    absent_whole c.args.name.now (entry_names c.args.entries.now) c.loop-i.i (omega (arith, length-names c.args.entries.now, c.loop-i-test.false)) c.loop-i.invariant
+    absent_whole c.args.name.now (entry_names c.args.entries.now) c.loop-i.i (omega (arith, length-names c.args.entries.now, c.loop-i-test.false))
+    c.loop-i.invariant

@@ -9,7 +9,8 @@ loop-left-preserved c =
     let name = c.args.name.now in
     let left = c.loop-left.left.now in
     c.loop-left.invariant
-    ∙ has_mail-next name left c.bytes.result.now _ c.in-len2-up.len_at_least (c.bytes.ensures ∙ c.value-item.is) (sym c.is_named.ensures ∙ c.if-is_named.false)
+    ∙ has_mail-next name left c.bytes.result.now _ c.in-len2-up.len_at_least (c.bytes.ensures ∙ c.value-item.is)
+    (sym c.is_named.ensures ∙ c.if-is_named.false)
     ∙ ap (has_mail name) (sym (take_rest left 2))
 
 pub returns : goal.returns

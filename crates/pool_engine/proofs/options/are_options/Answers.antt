@@ -9,9 +9,11 @@ loop-left-preserved c =
     let left = c.loop-left.left.now in
     let option = c.bytes.result.now in
     let value = c.bytes-in-len2-up.result.now in
-    let one = subst (λ (words : List (List ℕ)). is_option option value words ≡ true) (take_rest left 2) (sym c.is_option.ensures ∙ c.if-not-is_option.false) in
+    let one =
+    subst (λ (words : List (List ℕ)). is_option option value words ≡ true) (take_rest left 2) (sym c.is_option.ensures ∙ c.if-not-is_option.false) in
     c.loop-left.invariant
-    ∙ are_options-next left option value _ _ c.in-len2-up.len_at_least (c.bytes.ensures ∙ c.option-item.is) (c.bytes-in-len2-up.ensures ∙ c.value-item.is) one
+    ∙ are_options-next left option value _ _ c.in-len2-up.len_at_least (c.bytes.ensures ∙ c.option-item.is) (c.bytes-in-len2-up.ensures ∙ c.value-item.is)
+    one
     ∙ ap are_options (sym (take_rest left 2))
 
 pub returns : goal.returns

@@ -8,5 +8,6 @@ pub returns-in-Wire-clause-sure_sink : goal.returns-in-Wire-clause-sure_sink
 returns-in-Wire-clause-sure_sink g c =
     subst
     (λ (asked : Asked). IfSome (input_of asked (g.S.Source.shows c.args.source.now).left)
-    (λ bytes. length (asked_text asked (g.D.Notices.shows c.args.desk.now) bytes) ≤ (g.K.Sink.shows c.args.sink.now).sure → c.run_wire-end.result ≢ WriteFault))
+    (λ bytes. length (asked_text asked (g.D.Notices.shows c.args.desk.now) bytes) ≤ (g.K.Sink.shows c.args.sink.now).sure
+    → c.run_wire-end.result ≢ WriteFault))
     c.in-Wire.ensures.asked c.run_wire-end.ensures.sure_sink

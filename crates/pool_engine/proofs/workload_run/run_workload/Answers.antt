@@ -7,7 +7,9 @@ use Rattle.pool_engine.proofs.workload_run.run_workload.Goals as goal
 pub returns-in_default-offer_summary-clause-ends : goal.returns-in_default-offer_summary-clause-ends
 returns-in_default-offer_summary-clause-ends g c =
     let unwritten = from_err c.offer_summary.result _ c.in_default-offer_summary.is c.offer_summary.ensures.unwritten in
-    Workload-unprinted c.args.machines (effects (g.K.Sink.shows c.args.sink.now) c.args.tops.now c.args.touch.now (g.D.Notices.shows c.args.desk.now)) (effects (g.K.Sink.shows c.offer_summary.new.sink) c.summed.new.tops c.summed.new.touch (g.D.Notices.shows c.summed.new.desk)) c.in-Ok.ensures.took.0 c.in-Ok.summary.refused (ap g.K.Sink.shows unwritten) c.in-Ok.ensures.took.1
+    Workload-unprinted c.args.machines (effects (g.K.Sink.shows c.args.sink.now) c.args.tops.now c.args.touch.now (g.D.Notices.shows c.args.desk.now))
+    (effects (g.K.Sink.shows c.offer_summary.new.sink) c.summed.new.tops c.summed.new.touch (g.D.Notices.shows c.summed.new.desk)) c.in-Ok.ensures.took.0
+    c.in-Ok.summary.refused (ap g.K.Sink.shows unwritten) c.in-Ok.ensures.took.1
 
 pub returns-in_default-clause-words : goal.returns-in_default-clause-words
 returns-in_default-clause-words g c = memory-words

@@ -8,7 +8,9 @@ use Rattle.pool_engine.proofs.workload_run.sum_waiting.Given as goal
 
 abbrev pub invariant-loop-command : goal.invariant-loop-command
 invariant-loop-command g l = record {
-  summing : Summing (heard (state_of l.initial.pool) (g.D.Notices.shows l.initial.desk)) (heard (state_of l.pool) (g.D.Notices.shows l.desk)) (effects silent l.initial.tops l.initial.touch (g.D.Notices.shows l.initial.desk)) (effects silent l.tops l.touch (g.D.Notices.shows l.desk)) l.initial.script.waiting l.script.waiting l.summary;
+  summing : Summing (heard (state_of l.initial.pool) (g.D.Notices.shows l.initial.desk)) (heard (state_of l.pool) (g.D.Notices.shows l.desk))
+      (effects silent l.initial.tops l.initial.touch (g.D.Notices.shows l.initial.desk)) (effects silent l.tops l.touch (g.D.Notices.shows l.desk))
+      l.initial.script.waiting l.script.waiting l.summary;
   ratio : l.entry + 9216 * l.initial.tops ≤ l.initial.entry + 9216 * l.tops;
 }
 

@@ -13,7 +13,10 @@ in_parts old a b first c d e now first_is now_is =
 pub returns : goal.returns
 returns c =
     on_ok_weaker c.append_amount_line.result
-    (λ now_is. in_parts c.args.out.now (codes "refused 6 lexical ") (decimal c.from.result) c.append_amount.new.out (codes " at ") (decimal c.from-2.result) (10 ∷ []) c.append_amount_line.new.out c.in_ok-append_amount.ensures now_is
-    ∙ ap (λ (k : ℕ). c.args.out.now ++ (codes "refused 6 lexical " ++ decimal k ++ codes " at " ++ decimal c.from-2.result ++ 10 ∷ [])) (c.from.ensures ∙ c.number.ensures)
-    ∙ ap (λ (p : ℕ). c.args.out.now ++ (codes "refused 6 lexical " ++ decimal (kind_number c.args.kind) ++ codes " at " ++ decimal p ++ 10 ∷ [])) c.from-2.ensures)
+    (λ now_is. in_parts c.args.out.now (codes "refused 6 lexical ") (decimal c.from.result) c.append_amount.new.out (codes " at ") (decimal c.from-2.result)
+    (10 ∷ []) c.append_amount_line.new.out c.in_ok-append_amount.ensures now_is
+    ∙ ap (λ (k : ℕ). c.args.out.now ++ (codes "refused 6 lexical " ++ decimal k ++ codes " at " ++ decimal c.from-2.result ++ 10 ∷ []))
+    (c.from.ensures ∙ c.number.ensures)
+    ∙ ap (λ (p : ℕ). c.args.out.now ++ (codes "refused 6 lexical " ++ decimal (kind_number c.args.kind) ++ codes " at " ++ decimal p ++ 10 ∷ []))
+    c.from-2.ensures)
     c.append_amount_line.ensures

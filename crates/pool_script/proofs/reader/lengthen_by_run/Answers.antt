@@ -11,8 +11,10 @@ pub returns-clause-ok : goal.returns-clause-ok
 returns-clause-ok c =
     let block = c.args.block.now in
     let piece = c.args.piece.now in
-    let run : c.split_at.result.0.now ≡ run_into block piece = c.split_at.ensures.front ∙ ap (λ (n : ℕ). take n piece) c.run_into.ensures ∙ taken_run block piece in
-    ap {A = List ℕ} {B = Block} (λ (text : List ℕ). record { line = block.line; text = text }) (c.in_ok-append.ensures.ok ∙ ap (λ (l : List ℕ). block.text ++ l) run)
+    let run : c.split_at.result.0.now ≡ run_into block piece =
+    c.split_at.ensures.front ∙ ap (λ (n : ℕ). take n piece) c.run_into.ensures ∙ taken_run block piece in
+    ap {A = List ℕ} {B = Block} (λ (text : List ℕ). record { line = block.line; text = text })
+    (c.in_ok-append.ensures.ok ∙ ap (λ (l : List ℕ). block.text ++ l) run)
 
 pub returns-clause-left : goal.returns-clause-left
 returns-clause-left c =

@@ -14,7 +14,8 @@ returns c = λ i at.
     let books = c.args.books.now in
     let stock = stock_of books.ads.store in
     let jobs = jobs_of books.claims in
-    let beside : AreBeside stock.ads stock.slots = record { long = stock-length books.ads.store; names = c.names_are_apart.ensures; apart = c.slots_are_apart.ensures } in
+    let beside : AreBeside stock.ads stock.slots =
+    record { long = stock-length books.ads.store; names = c.names_are_apart.ensures; apart = c.slots_are_apart.ensures } in
     let named : Option ℕ → Option (List ℕ) = λ number. option_map (λ (job : Job). job.name) (option_and_then (λ k. slice_get jobs k) number) in
     row-is (queue_of books) stock.ads i c.in_ok-copy.field-0 c.born.result c.lifetime.result c.in_ok-job_name.field-0 c.in_ok-job_name-2.field-0
     (c.name.ensures i at ∙ ap Some (sym c.in_ok-copy.ensures.text)) (c.born.ensures i at) (c.lifetime.ensures i at)

@@ -12,11 +12,13 @@ returns-then-not-branch-clause-step g c = λ moment priorities.
     let s : State = state_with moment priorities c.args.books.now in
     let left = c.in_ok-withdraw.ensures in
     ap (λ (name : List ℕ). withdraw s name) (sym c.bytes.ensures)
-    ∙ withdraw-unknown s c.bytes.result.now (ads_of c.withdraw.new.self.ads) (queue_of c.withdraw.new.self) (sym left.held ∙ c.if-not-branch.true) left.ads (left.none c.if-not-branch.true)
+    ∙ withdraw-unknown s c.bytes.result.now (ads_of c.withdraw.new.self.ads) (queue_of c.withdraw.new.self) (sym left.held ∙ c.if-not-branch.true) left.ads
+    (left.none c.if-not-branch.true)
 
 pub returns-clause-step : goal.returns-clause-step
 returns-clause-step g c = λ moment priorities.
     let s : State = state_with moment priorities c.args.books.now in
     let left = c.in_ok-withdraw.ensures in
     ap (λ (name : List ℕ). withdraw s name) (sym c.bytes.ensures)
-    ∙ withdraw-held s c.bytes.result.now c.in_ok-copy.field-0 (ads_of c.withdraw.new.self.ads) (queue_of c.withdraw.new.self) (sym left.held ∙ c.if-not-branch.false) left.ads (left.jobs c.if-not-branch.false) (c.in_ok-copy.ensures.text ∙ sym c.bytes.ensures)
+    ∙ withdraw-held s c.bytes.result.now c.in_ok-copy.field-0 (ads_of c.withdraw.new.self.ads) (queue_of c.withdraw.new.self)
+    (sym left.held ∙ c.if-not-branch.false) left.ads (left.jobs c.if-not-branch.false) (c.in_ok-copy.ensures.text ∙ sym c.bytes.ensures)

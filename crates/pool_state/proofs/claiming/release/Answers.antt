@@ -24,13 +24,16 @@ returns-in-Err-NoJob-clause-step c = λ moment priorities.
     let s : State = state_with moment priorities c.args.books.now in
     let t : State = state_with moment priorities c.release.new.self in
     ap (λ (n : List ℕ). release s n) (sym c.bytes.ensures)
-    ∙ subst (λ (fault : JobFault). IsReleaseAnswer s c.bytes.result.now t (Err fault)) c.in-Err-NoJob.field-0-is (c.in-Err-NoJob.ensures.release moment priorities)
+    ∙ subst (λ (fault : JobFault). IsReleaseAnswer s c.bytes.result.now t (Err fault)) c.in-Err-NoJob.field-0-is
+    (c.in-Err-NoJob.ensures.release moment priorities)
 
 pub returns-clause-step : goal.returns-clause-step
 returns-clause-step c = λ moment priorities.
     let s : State = state_with moment priorities c.args.books.now in
     let t : State = state_with moment priorities c.release.new.self in
-    let told = subst (λ (fault : JobFault). IsReleaseAnswer s c.bytes.result.now t (Err fault)) c.in-Err-WrongState.field-0-is (c.in-Err-WrongState.ensures.release moment priorities) in
+    let told =
+    subst (λ (fault : JobFault). IsReleaseAnswer s c.bytes.result.now t (Err fault)) c.in-Err-WrongState.field-0-is
+    (c.in-Err-WrongState.ensures.release moment priorities) in
     ap (λ (n : List ℕ). release s n) (sym c.bytes.ensures) ∙ told.1
     ∙ ap (λ (state : JobState). let p : State × Reply = (t, reply.Refused (why.WrongState state)) in p) (sym c.in-Err-WrongState.state-is)
 
@@ -39,5 +42,7 @@ unfolding is_printable is_printable_refusal
 returns-clause-printable c =
     let s : State = state_with 0 [] c.args.books.now in
     let t : State = state_with 0 [] c.release.new.self in
-    let told = subst (λ (fault : JobFault). IsReleaseAnswer s c.bytes.result.now t (Err fault)) c.in-Err-WrongState.field-0-is (c.in-Err-WrongState.ensures.release 0 []) in
+    let told =
+    subst (λ (fault : JobFault). IsReleaseAnswer s c.bytes.result.now t (Err fault)) c.in-Err-WrongState.field-0-is
+    (c.in-Err-WrongState.ensures.release 0 []) in
     subst (λ (state : JobState). is_wrong_state state ≡ true) (sym c.in-Err-WrongState.state-is) told.0

@@ -10,24 +10,30 @@ pub returns-then-len-gt0-clause-number : goal.returns-then-len-gt0-clause-number
 returns-then-len-gt0-clause-number c =
     let request = c.args.request.now in
     IfOk-weaker c.alone.result _ _
-    (λ n is ads read. is ∙ ap (λ own. number_for own c.args.classes.now) (sym (gang-key ads (ad_frames request.ad) request.ports (omega (arith, c.len.ensures, c.if-len-gt0.true))))) c.alone.ensures.number
+    (λ n is ads read. is ∙ ap (λ own. number_for own c.args.classes.now) (sym
+    (gang-key ads (ad_frames request.ad) request.ports (omega (arith, c.len.ensures, c.if-len-gt0.true))))) c.alone.ensures.number
 
 pub returns-then-len-gt0-clause-classes : goal.returns-then-len-gt0-clause-classes
 returns-then-len-gt0-clause-classes c =
     let request = c.args.request.now in
     on_ok_weaker c.alone.result
-    (λ is ads read. is ∙ ap (λ own. keys_with own c.args.classes.now) (sym (gang-key ads (ad_frames request.ad) request.ports (omega (arith, c.len.ensures, c.if-len-gt0.true))))) c.alone.ensures.ok
+    (λ is ads read. is ∙ ap (λ own. keys_with own c.args.classes.now) (sym
+    (gang-key ads (ad_frames request.ad) request.ports (omega (arith, c.len.ensures, c.if-len-gt0.true))))) c.alone.ensures.ok
 
-pub returns-in_ok-key-clause-number : goal.returns-in_ok-key-clause-number
-returns-in_ok-key-clause-number c =
+pub returns-in_ok-of-clause-number : goal.returns-in_ok-of-clause-number
+returns-in_ok-of-clause-number c =
     let request = c.args.request.now in
     IfOk-weaker c.join.result _ _
-    (λ n is ads read. is ∙ ap (λ key. number_for (Some key) c.args.classes.now) (c.in_ok-key.ensures.ads ads read)
-    ∙ ap (λ own. number_for own c.args.classes.now) (sym (single-key ads (ad_frames request.ad) request.ports (no-ports request.ports c.len.result c.len.ensures (omega (arith, c.if-len-gt0.false)))))) c.join.ensures.number
+    (λ n is ads read. is ∙ ap (λ key. number_for (Some key) c.args.classes.now) (c.in_ok-of.ensures.ads ads read)
+    ∙ ap (λ own. number_for own c.args.classes.now) (sym
+    (single-key ads (ad_frames request.ad) request.ports (no-ports request.ports c.len.result c.len.ensures (omega (arith, c.if-len-gt0.false))))))
+    c.join.ensures.number
 
-pub returns-in_ok-key-clause-classes : goal.returns-in_ok-key-clause-classes
-returns-in_ok-key-clause-classes c =
+pub returns-in_ok-of-clause-classes : goal.returns-in_ok-of-clause-classes
+returns-in_ok-of-clause-classes c =
     let request = c.args.request.now in
     on_ok_weaker c.join.result
-    (λ is ads read. is ∙ ap (λ key. keys_with (Some key) c.args.classes.now) (c.in_ok-key.ensures.ads ads read)
-    ∙ ap (λ own. keys_with own c.args.classes.now) (sym (single-key ads (ad_frames request.ad) request.ports (no-ports request.ports c.len.result c.len.ensures (omega (arith, c.if-len-gt0.false)))))) c.join.ensures.ok
+    (λ is ads read. is ∙ ap (λ key. keys_with (Some key) c.args.classes.now) (c.in_ok-of.ensures.ads ads read)
+    ∙ ap (λ own. keys_with own c.args.classes.now) (sym
+    (single-key ads (ad_frames request.ad) request.ports (no-ports request.ports c.len.result c.len.ensures (omega (arith, c.if-len-gt0.false))))))
+    c.join.ensures.ok

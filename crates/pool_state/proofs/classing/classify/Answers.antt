@@ -15,8 +15,11 @@ loop-i-preserved g c =
     let name = c.in_ok-copy.field-0 in
     let named = c.job.ensures ∙ ap Some (sym c.in_ok-copy.ensures.text) in
     record {
-      keys = class_keys-next stock.ads stock jobs books.owned c.loop-i.i request c.request.ensures name named c.loop-i.classes c.class_of.new.classes c.loop-i.invariant.keys (c.in_ok-number.ensures.classes stock.ads c.in_ok-reach.ensures.names);
-      names = class_names-next stock.ads stock jobs books.owned c.loop-i.i request c.request.ensures name named c.loop-i.classes c.in_ok-number.number c.loop-i.lists c.add.new.self c.loop-i.invariant.keys c.loop-i.invariant.names
+      keys = class_keys-next stock.ads stock jobs books.owned c.loop-i.i request c.request.ensures name named c.loop-i.classes c.class_of.new.classes
+          c.loop-i.invariant.keys (c.in_ok-number.ensures.classes stock.ads c.in_ok-reach.ensures.names);
+      names =
+          class_names-next stock.ads stock jobs books.owned c.loop-i.i request c.request.ensures name named c.loop-i.classes c.in_ok-number.number
+          c.loop-i.lists c.add.new.self c.loop-i.invariant.keys c.loop-i.invariant.names
           (c.in_ok-number.ensures.number stock.ads c.in_ok-reach.ensures.names) c.in_ok-add.ensures;
     }
 
@@ -24,4 +27,5 @@ pub returns-clause-reply : goal.returns-clause-reply
 returns-clause-reply g c =
     let books = c.args.books.now in
     let stock = stock_of books.ads.store in
-    sym (ap reply.Classes (c.loop-i.invariant.names ∙ ap class_names (classes-of_all stock.ads stock (jobs_of books.claims) c.loop-i.i (omega (arith, c.loop-i-test.false, c.len-i-end.ensures.len)))))
+    sym (ap reply.Classes (c.loop-i.invariant.names ∙ ap class_names (classes-of_all stock.ads stock (jobs_of books.claims) c.loop-i.i
+    (omega (arith, c.loop-i-test.false, c.len-i-end.ensures.len)))))

@@ -15,4 +15,5 @@ returns-in-Err-clause-reply g c =
 pub returns-clause-reply : goal.returns-clause-reply
 returns-clause-reply g c =
     let text = c.args.expr.now in
-    eval-parsed c.args.moment (expr_outcome text) c.in-Ok.phrase c.in_ok-text.field-0 (c.in-Ok.ensures.outcome (expr_outcome text) (expr_outcome-has text)) c.in_ok-text.ensures.text
+    eval-parsed c.args.moment (expr_outcome text) c.in-Ok.phrase c.in_ok-text.field-0 (c.in-Ok.ensures.outcome (expr_outcome text) (expr_outcome-has text))
+    c.in_ok-text.ensures.text

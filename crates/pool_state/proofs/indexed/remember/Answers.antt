@@ -23,16 +23,20 @@ returns-then-is_err-clause-gone g c = λ index.
     let name = c.args.name.now in
     let slot = c.in-Some.slot in
     let round = rows-round name stock.ads stock.slots slot (sym c.in-Some.ensures.slot) in
-    let alone = alone-under stock.ads stock.slots round.before slot round.old.ad round.after (stock-length c.args.store.now) c.slots_are_apart.ensures round.rows in
+    let alone =
+    alone-under stock.ads stock.slots round.before slot round.old.ad round.after (stock-length c.args.store.now) c.slots_are_apart.ensures round.rows in
     let absent : ad_under slot (rows_of (stock_without name stock)) ≡ None = ap (ad_under slot) round.withdrawn ∙ alone in
     let same = on_err c.add.result _ (sym c.is_err.ensures.value ∙ c.if-is_err.true) c.add.ensures.err (rows_of (stock_without name stock)) index absent in
     let beside = slot_beside-found (is_named name) stock.ads stock.slots slot (sym c.in-Some.ensures.slot) in
     let held = has_at name stock.ads beside.place beside.advert beside.at (sym (named name beside.advert beside.passes)) in
-    let gone = withdrawn_stock c.withdraw.result name stock (stock_of c.withdraw.new.self) held c.withdraw.ensures.ads c.withdraw.ensures.slots c.withdraw.ensures.none in
+    let gone =
+    withdrawn_stock c.withdraw.result name stock (stock_of c.withdraw.new.self) held c.withdraw.ensures.ads c.withdraw.ensures.slots
+    c.withdraw.ensures.none in
     subst (λ (s : Stock). IsKept c.add.new.self (rows_of s)) (sym gone) same
 
 pub returns-then-is_err-clause-small : goal.returns-then-is_err-clause-small
-returns-then-is_err-clause-small g c = small-withdrawn c.withdraw.result c.args.name.now (stock_of c.args.store.now) (stock_of c.withdraw.new.self) c.withdraw.ensures.ads c.withdraw.ensures.err
+returns-then-is_err-clause-small g c =
+    small-withdrawn c.withdraw.result c.args.name.now (stock_of c.args.store.now) (stock_of c.withdraw.new.self) c.withdraw.ensures.ads c.withdraw.ensures.err
 
 pub returns-clause-all : goal.returns-clause-all
 returns-clause-all g c = λ index.
@@ -41,6 +45,7 @@ returns-clause-all g c = λ index.
     let round = rows-round c.args.name.now stock.ads stock.slots slot (sym c.in-Some.ensures.slot) in
     let frames = here_frames stock.ads round.place round.old (ad_frames c.look.result.now) round.ad_there (c.look.ensures.ad round.place round.slot_there) in
     let others = subst (IsKept c.args.index.now) round.withdrawn index in
-    let alone = alone-under stock.ads stock.slots round.before slot round.old.ad round.after (stock-length c.args.store.now) c.slots_are_apart.ensures round.rows in
+    let alone =
+    alone-under stock.ads stock.slots round.before slot round.old.ad round.after (stock-length c.args.store.now) c.slots_are_apart.ensures round.rows in
     let added = on_ok c.add.result _ (sym c.is_err.ensures.value ∙ c.if-is_err.false) c.add.ensures.ok round.before round.after others alone in
     subst (IsKept c.add.new.self) (sym (round.rows ∙ ap (λ f. round.before ++ row_of slot f ∷ round.after) frames)) added

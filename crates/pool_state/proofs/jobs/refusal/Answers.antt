@@ -24,11 +24,13 @@ returns-then-saturating_add-gt-TEXT_LIMIT-clause-reason c =
     let stock = stock_of c.args.books.now.ads.store in
     let jobs = jobs_of c.args.books.now.claims in
     let known = sym (known-queued (λ job. state_of job.standing) stock c.args.name.now jobs) ∙ ap is_some (sym c.state.ensures) ∙ sym c.is_some.ensures in
-    sym (refusal-text stock c.args.name.now c.args.size jobs (known ∙ c.if-is_some.false) (omega (arith, c.len.ensures.len)) (omega (arith, c.text_len.ensures.text, c.saturating_add.ensures)))
+    sym (refusal-text stock c.args.name.now c.args.size jobs (known ∙ c.if-is_some.false) (omega (arith, c.len.ensures.len))
+    (omega (arith, c.text_len.ensures.text, c.saturating_add.ensures)))
 
 pub returns-clause-reason : goal.returns-clause-reason
 returns-clause-reason c =
     let stock = stock_of c.args.books.now.ads.store in
     let jobs = jobs_of c.args.books.now.claims in
     let known = sym (known-queued (λ job. state_of job.standing) stock c.args.name.now jobs) ∙ ap is_some (sym c.state.ensures) ∙ sym c.is_some.ensures in
-    sym (refusal-none stock c.args.name.now c.args.size jobs (known ∙ c.if-is_some.false) (omega (arith, c.len.ensures.len)) (omega (arith, c.text_len.ensures.text, c.saturating_add.ensures)))
+    sym (refusal-none stock c.args.name.now c.args.size jobs (known ∙ c.if-is_some.false) (omega (arith, c.len.ensures.len))
+    (omega (arith, c.text_len.ensures.text, c.saturating_add.ensures)))

@@ -13,5 +13,7 @@ returns c =
     let books = c.args.books.now in
     let word = c.args.word.now in
     let given = c.in_ok-names.ensures ∙ ap (λ (n : List ℕ). names_given n (queue_of books)) c.bytes.ensures in
-    if_ok c.about.result (λ notice. notice ≡ about word c.user.result.now c.job-job.result.now c.in_ok-names.names) (λ notice. option_map (about_job word) (slice_get (queue_of books) c.args.place) ≡ Some notice)
-    (λ notice is. about-at (stock_of books.ads.store) (jobs_of books.claims) c.names_are_apart.ensures c.args.place c.job-job.result.now c.user.result.now c.in_ok-names.names c.job-job.ensures c.user.ensures given word notice is) c.about.ensures
+    if_ok c.about.result (λ notice. notice ≡ about word c.user.result.now c.job-job.result.now c.in_ok-names.names)
+    (λ notice. option_map (about_job word) (slice_get (queue_of books) c.args.place) ≡ Some notice)
+    (λ notice is. about-at (stock_of books.ads.store) (jobs_of books.claims) c.names_are_apart.ensures c.args.place c.job-job.result.now c.user.result.now
+    c.in_ok-names.names c.job-job.ensures c.user.ensures given word notice is) c.about.ensures

@@ -14,7 +14,8 @@ use Rattle.pool_state.proofs.losses.granted_to.Goals as goal
 pub returns-in_default : goal.returns-in_default
 returns-in_default c =
     let books = c.args.books.now in
-    c.new.ensures ∙ sym (ap (λ o. option_map_or (granted_to (queue_of books)) o []) (named-none (stock_of books.ads.store) (jobs_of books.claims) c.args.job.now (sym c.in_default.ensures.place)))
+    c.new.ensures ∙ sym (ap (λ o. option_map_or (granted_to (queue_of books)) o [])
+    (named-none (stock_of books.ads.store) (jobs_of books.claims) c.args.job.now (sym c.in_default.ensures.number)))
 
 pub holders-requires : goal.holders-requires
 holders-requires c =
@@ -30,8 +31,10 @@ returns c =
     let queue = queue_of books in
     let job = c.args.job.now in
     let notice = c.in_ok-about_job.field-0 in
-    let found = named-some stock jobs job c.in-Some.i (sym c.in-Some.ensures.place) in
-    let told : option_map (about_job (codes "claimed ")) (job_named job queue) ≡ Some notice = ap (option_map (about_job (codes "claimed "))) found ∙ c.in_ok-about_job.ensures in
+    let found = named-some stock jobs job c.in-Some.i (sym c.in-Some.ensures.number) in
+    let told : option_map (about_job (codes "claimed ")) (job_named job queue) ≡ Some notice =
+    ap (option_map (about_job (codes "claimed "))) found ∙ c.in_ok-about_job.ensures in
     c.in_ok-push.ensures.ok
     ∙ ap (λ (l : List Notice). l ++ notice ∷ []) (c.in_ok-list.ensures ∙ ap (losses queue) c.in_ok-places.ensures.places)
-    ∙ granted-is queue (job_named job queue) (map (name_in stock) c.slots.result.now) notice (λ q is. given-names stock job jobs c.slots.result.now q c.slots.ensures is) told
+    ∙ granted-is queue (job_named job queue) (map (name_in stock) c.slots.result.now) notice
+    (λ q is. given-names stock job jobs c.slots.result.now q c.slots.ensures is) told

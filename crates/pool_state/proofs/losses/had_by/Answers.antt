@@ -16,13 +16,18 @@ loop-slot-preserved c =
     let jobs = jobs_of books.claims in
     let slots = c.args.slots.now in
     let i = c.loop-slot.slot-index in
-    let beside : AreBeside stock.ads stock.slots = record { long = stock-length books.ads.store; names = c.names_are_apart.ensures; apart = c.slots_are_apart.ensures } in
-    let old = c.loop-slot.places in
-    let mid = c.add_place.new.places in
+    let beside : AreBeside stock.ads stock.slots =
+    record { long = stock-length books.ads.store; names = c.names_are_apart.ensures; apart = c.slots_are_apart.ensures } in
+    let old = c.loop-slot.places.list in
+    let mid = c.add.new.self.list in
     let within = λ (l : List ℕ). All (λ k. k < length jobs) l in
     let first = within-once (length jobs) old c.claimed_by.result c.claimed_by.ensures.within c.loop-slot.invariant.within in
     record {
-      places = had-next stock beside jobs books.listed slots i _ (slice_get-get_or slots i _ c.loop-slot-test.true) (All-get_or (Contains stock.slots) slots i _ c.loop-slot-test.true c.requires) old mid c.add_place-in-loop-slot.new.places c.loop-slot.invariant.places
-          (c.in_ok-add_place.ensures ∙ ap (once old) c.claimed_by.ensures.number) (c.in_ok-add_place-2.ensures ∙ ap (once mid) c.offered_to.ensures.number);
-      within = subst within (sym c.in_ok-add_place-2.ensures) (within-once (length jobs) mid c.offered_to.result c.offered_to.ensures.within (subst within (sym c.in_ok-add_place.ensures) first));
+      places =
+          had-next stock beside jobs books.listed slots i _ (slice_get-get_or slots i _ c.loop-slot-test.true)
+          (All-get_or (Contains stock.slots) slots i _ c.loop-slot-test.true c.requires) old mid c.add-in-loop-slot.new.self.list c.loop-slot.invariant.places
+          (c.in_ok-add.ensures ∙ ap (once old) c.claimed_by.ensures.number) (c.in_ok-add-2.ensures ∙ ap (once mid) c.offered_to.ensures.number);
+      within =
+          subst within (sym c.in_ok-add-2.ensures) (within-once (length jobs) mid c.offered_to.result c.offered_to.ensures.within
+          (subst within (sym c.in_ok-add.ensures) first));
     }

@@ -8,6 +8,6 @@ use Rattle.pool_state.proofs.losses.had_by.Given as goal
 
 abbrev pub invariant-loop-slot : goal.invariant-loop-slot
 invariant-loop-slot l = record {
-  places : l.places ≡ had_by (queue_of l.books) (map (name_in (stock_of l.books.ads.store)) (take l.slot-index l.slots));
-  within : All (λ i. i < length (jobs_of l.books.claims)) l.places;
+  places : l.places.list ≡ had_by (queue_of l.books) (map (name_in (stock_of l.books.ads.store)) (take l.slot-index l.slots));
+  within : All (λ i. i < length (jobs_of l.books.claims)) l.places.list;
 }

@@ -16,10 +16,15 @@ loop-slot-preserved c =
     let jobs = jobs_of books.claims in
     let slots = c.args.slots.now in
     let i = c.loop-slot.slot-index in
-    let beside : AreBeside stock.ads stock.slots = record { long = stock-length books.ads.store; names = c.names_are_apart.ensures; apart = c.slots_are_apart.ensures } in
+    let beside : AreBeside stock.ads stock.slots =
+    record { long = stock-length books.ads.store; names = c.names_are_apart.ensures; apart = c.slots_are_apart.ensures } in
     let old = c.loop-slot.places in
     record {
-      places = holders-next stock beside jobs books.listed slots i _ (slice_get-get_or slots i _ c.loop-slot-test.true) (All-get_or (Contains stock.slots) slots i _ c.loop-slot-test.true c.requires) old c.add_place.new.places c.loop-slot.invariant.places
+      places =
+          holders-next stock beside jobs books.listed slots i _ (slice_get-get_or slots i _ c.loop-slot-test.true)
+          (All-get_or (Contains stock.slots) slots i _ c.loop-slot-test.true c.requires) old c.add_place.new.places c.loop-slot.invariant.places
           (c.in_ok-add_place.ensures ∙ ap (once old) c.claimed_by.ensures.number);
-      within = subst (λ (l : List ℕ). All (λ k. k < length jobs) l) (sym c.in_ok-add_place.ensures) (within-once (length jobs) old c.claimed_by.result c.claimed_by.ensures.within c.loop-slot.invariant.within);
+      within =
+          subst (λ (l : List ℕ). All (λ k. k < length jobs) l) (sym c.in_ok-add_place.ensures)
+          (within-once (length jobs) old c.claimed_by.result c.claimed_by.ensures.within c.loop-slot.invariant.within);
     }

@@ -19,7 +19,8 @@ returns-in_default c =
     let old : Stock = stock_of books.ads.store in
     let name = c.args.name.now in
     let none = slot_beside-none (is_named name) old.ads old.slots (stock-length books.ads.store) (sym c.in_default.ensures.slot) in
-    c.new.ensures ∙ sym (ap (λ b. let l : List Notice = cond b (losses (queue_of books) (had_by (queue_of books) (name ∷ []))) [] in l) (sym (found-any (is_named name) old.ads) ∙ ap is_some none))
+    c.new.ensures ∙ sym (ap (λ b. let l : List Notice = cond b (losses (queue_of books) (had_by (queue_of books) (name ∷ []))) [] in l)
+    (sym (found-any (is_named name) old.ads) ∙ ap is_some none))
 
 pub returns : goal.returns
 returns c =
@@ -34,4 +35,5 @@ returns c =
     let same : name_in old slot ≡ name = name-there old c.slots_are_apart.ensures found.place slot found.advert found.slot_at found.at ∙ called in
     let places = c.in_ok-places.ensures.places ∙ ap (λ (n : List ℕ). had_by queue (n ∷ [])) same in
     if_ok c.losses.result (λ list. list ≡ losses queue c.in_ok-places.places) (λ list. list ≡ granted (ads_of books.ads) queue (Withdraw name))
-    (λ list is. is ∙ ap (losses queue) places ∙ sym (ap (λ b. let l : List Notice = cond b (losses queue (had_by queue (name ∷ []))) [] in l) held)) c.losses.ensures
+    (λ list is. is ∙ ap (losses queue) places ∙ sym (ap (λ b. let l : List Notice = cond b (losses queue (had_by queue (name ∷ []))) [] in l) held))
+    c.losses.ensures

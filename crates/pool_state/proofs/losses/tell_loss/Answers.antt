@@ -14,7 +14,9 @@ returns-then-len-eq0 c =
     let books = c.args.books.now in
     let given = c.in_ok-names.ensures ∙ ap (λ (n : List ℕ). names_given n (queue_of books)) c.bytes.ensures in
     let none : length c.in_ok-names.names ≡ 0 = omega (arith, c.len.ensures, c.if-len-eq0.true) in
-    sym (ap (λ (l : List Notice). c.args.list.now ++ l) (loss-none (stock_of books.ads.store) (jobs_of books.claims) c.names_are_apart.ensures c.args.place c.job-job.result.now c.user-user.result.now c.in_ok-names.names c.job-job.ensures c.user-user.ensures given none) ∙ append-nil c.args.list.now)
+    sym (ap (λ (l : List Notice). c.args.list.now ++ l)
+    (loss-none (stock_of books.ads.store) (jobs_of books.claims) c.names_are_apart.ensures c.args.place c.job-job.result.now c.user-user.result.now
+    c.in_ok-names.names c.job-job.ensures c.user-user.ensures given none) ∙ append-nil c.args.list.now)
 
 pub returns : goal.returns
 returns c =
@@ -23,5 +25,7 @@ returns c =
     let some : 0 < length c.in_ok-names.names = omega (arith, c.len.ensures, c.if-len-eq0.false) in
     let notice = c.in_ok-about.field-0 in
     on_ok c.push.result (c.push.new.self ≡ c.args.list.now ++ notice ∷ []) (c.push.new.self ≡ c.args.list.now ++ loss_at (queue_of books) c.args.place)
-    (λ is. is ∙ sym (ap (λ (l : List Notice). c.args.list.now ++ l) (loss-some (stock_of books.ads.store) (jobs_of books.claims) c.names_are_apart.ensures c.args.place c.job-job.result.now c.user-user.result.now c.in_ok-names.names c.job-job.ensures c.user-user.ensures given notice some c.in_ok-about.ensures)))
+    (λ is. is ∙ sym (ap (λ (l : List Notice). c.args.list.now ++ l)
+    (loss-some (stock_of books.ads.store) (jobs_of books.claims) c.names_are_apart.ensures c.args.place c.job-job.result.now c.user-user.result.now
+    c.in_ok-names.names c.job-job.ensures c.user-user.ensures given notice some c.in_ok-about.ensures)))
     c.push.ensures.ok

@@ -8,4 +8,5 @@ use Rattle.pool_state.proofs.negotiation.name_of.Goals as goal
 pub returns : goal.returns
 returns c =
     let stock = stock_of c.args.store.now in
-    if_ok c.copy.result _ (λ name. name ≡ name_in stock c.args.slot) (λ name is. is ∙ name-in stock c.args.slot c.name.result.now c.requires c.name.ensures) c.copy.ensures.text
+    if_ok c.copy.result _ (λ name. name ≡ name_in stock c.args.slot) (λ name is. is ∙ name-in stock c.args.slot c.name.result.now c.requires c.name.ensures)
+    c.copy.ensures.text

@@ -5,7 +5,8 @@ use Rattle.pool_state.specs.declared.indexed.IndexedStore.{IndexedStore}
 use Rattle.pool_state.proofs.negotiation.negotiate.Goals as goal
 
 pub spin_rows-rows-requires : goal.spin_rows-rows-requires
-spin_rows-rows-requires g c = subst (λ (ads : IndexedStore). All (IsSpinHeld (stock_of ads.store).slots) c.in_ok-spins.spins) (sym c.in_ok-spins.ensures.ads) c.in_ok-spins.ensures.held
+spin_rows-rows-requires g c =
+    subst (λ (ads : IndexedStore). All (IsSpinHeld (stock_of ads.store).slots) c.in_ok-spins.spins) (sym c.in_ok-spins.ensures.ads) c.in_ok-spins.ensures.held
 
 pub returns-clause-step : goal.returns-clause-step
 returns-clause-step g c =

@@ -12,7 +12,9 @@ offer_row-requires c = all_at (IsOfferHeld (stock_of c.args.store.now).slots) c.
 pub loop-i-preserved : goal.loop-i-preserved
 loop-i-preserved c =
     let row = c.in_ok-offer_row.field-0 in
-    rw (add-one c.loop-i.i) (c.in_ok-push.ensures.ok ∙ ap (λ (rows : List OfferRow). rows ++ row ∷ []) c.loop-i.invariant ∙ rows-more (offer_row (stock_of c.args.store.now)) c.args.offers.now c.loop-i.i c.at.result.now row c.at.ensures c.in_ok-offer_row.ensures)
+    rw (add-one c.loop-i.i) (c.in_ok-push.ensures.ok ∙ ap (λ (rows : List OfferRow). rows ++ row ∷ []) c.loop-i.invariant
+    ∙ rows-more (offer_row (stock_of c.args.store.now)) c.args.offers.now c.loop-i.i c.at.result.now row c.at.ensures c.in_ok-offer_row.ensures)
 
 pub returns : goal.returns
-returns c = c.loop-i.invariant ∙ rows-all (offer_row (stock_of c.args.store.now)) c.args.offers.now c.loop-i.i (omega (arith, c.loop-i-test.false, c.len-i-end.ensures))
+returns c =
+    c.loop-i.invariant ∙ rows-all (offer_row (stock_of c.args.store.now)) c.args.offers.now c.loop-i.i (omega (arith, c.loop-i-test.false, c.len-i-end.ensures))

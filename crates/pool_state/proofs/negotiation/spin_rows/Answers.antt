@@ -16,7 +16,9 @@ loop-i-preserved c =
     let turns = c.in_ok-turns.turns in
     let row : SpinRow = record { free = spin.free; turns = turns } in
     rw (add-one c.loop-i.i) (c.in_ok-push.ensures.ok ∙ ap (λ (rows : List SpinRow). rows ++ row ∷ []) c.loop-i.invariant
-    ∙ rows-more (spin_row (stock_of c.args.store.now)) c.args.spins.now c.loop-i.i spin row c.at-spin.ensures (ap (λ (ts : List TurnRow). let r : SpinRow = record { free = spin.free; turns = ts } in r) c.in_ok-turns.ensures))
+    ∙ rows-more (spin_row (stock_of c.args.store.now)) c.args.spins.now c.loop-i.i spin row c.at-spin.ensures
+    (ap (λ (ts : List TurnRow). let r : SpinRow = record { free = spin.free; turns = ts } in r) c.in_ok-turns.ensures))
 
 pub returns : goal.returns
-returns c = c.loop-i.invariant ∙ rows-all (spin_row (stock_of c.args.store.now)) c.args.spins.now c.loop-i.i (omega (arith, c.loop-i-test.false, c.len-i-end.ensures))
+returns c =
+    c.loop-i.invariant ∙ rows-all (spin_row (stock_of c.args.store.now)) c.args.spins.now c.loop-i.i (omega (arith, c.loop-i-test.false, c.len-i-end.ensures))

@@ -12,7 +12,9 @@ turn_row-requires c = all_at (IsTurnHeld (stock_of c.args.store.now).slots) c.ar
 pub loop-i-preserved : goal.loop-i-preserved
 loop-i-preserved c =
     let row = c.in_ok-turn_row.field-0 in
-    rw (add-one c.loop-i.i) (c.in_ok-push.ensures.ok ∙ ap (λ (rows : List TurnRow). rows ++ row ∷ []) c.loop-i.invariant ∙ rows-more (turn_row (stock_of c.args.store.now)) c.args.turns.now c.loop-i.i c.at.result.now row c.at.ensures c.in_ok-turn_row.ensures)
+    rw (add-one c.loop-i.i) (c.in_ok-push.ensures.ok ∙ ap (λ (rows : List TurnRow). rows ++ row ∷ []) c.loop-i.invariant
+    ∙ rows-more (turn_row (stock_of c.args.store.now)) c.args.turns.now c.loop-i.i c.at.result.now row c.at.ensures c.in_ok-turn_row.ensures)
 
 pub returns : goal.returns
-returns c = c.loop-i.invariant ∙ rows-all (turn_row (stock_of c.args.store.now)) c.args.turns.now c.loop-i.i (omega (arith, c.loop-i-test.false, c.len-i-end.ensures))
+returns c =
+    c.loop-i.invariant ∙ rows-all (turn_row (stock_of c.args.store.now)) c.args.turns.now c.loop-i.i (omega (arith, c.loop-i-test.false, c.len-i-end.ensures))

@@ -8,4 +8,5 @@ use Rattle.pool_state.proofs.notices.tell.Goals as goal
 pub returns-in-Ok-clause-posted : goal.returns-in-Ok-clause-posted
 returns-in-Ok-clause-posted g c =
     subst (λ (l : List Notice). AllZip (RowAfter (posts_of_all l)) (g.D.Notices.shows c.args.desk.now) (g.D.Notices.shows c.post_all.new.desk)) c.in-Ok.ensures
-    (rows-posted (posts_of_all c.in-Ok.notices) (desk_of (g.D.Notices.shows c.args.desk.now) (g.D.Notices.left c.args.desk.now)) (desk_of (g.D.Notices.shows c.post_all.new.desk) (g.D.Notices.left c.post_all.new.desk)) c.post_all.ensures)
+    (rows-posted (posts_of_all c.in-Ok.notices) (desk_of (g.D.Notices.shows c.args.desk.now) (g.D.Notices.left c.args.desk.now))
+    (desk_of (g.D.Notices.shows c.post_all.new.desk) (g.D.Notices.left c.post_all.new.desk)) c.post_all.ensures)

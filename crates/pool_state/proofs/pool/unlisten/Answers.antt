@@ -14,5 +14,6 @@ pub returns-else-close-clause-step : goal.returns-else-close-clause-step
 returns-else-close-clause-step g c = (λ pool.
     let old = g.D.Notices.shows c.args.desk.now in
     unlisten-unknown pool c.args.name.now old (g.D.Notices.shows c.close.new.self)
-    (subst (λ (n : List ℕ). is_some (failures_under n old) ≡ false) c.bytes.ensures (unknown-is (failures_under c.bytes.result.now old) c.if-close.ensures.known))
+    (subst (λ (n : List ℕ). is_some (failures_under n old) ≡ false) c.bytes.ensures
+    (unknown-is (failures_under c.bytes.result.now old) c.if-close.ensures.known))
     (c.if-close.ensures.rows ∙ ap (λ (n : List ℕ). without n old) c.bytes.ensures))

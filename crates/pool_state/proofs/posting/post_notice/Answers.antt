@@ -10,7 +10,9 @@ loop-name-preserved g c =
     let line = c.args.notice.now.line in
     let name = c.name-item.result in
     let names = c.args.notice.now.names in
-    let at : slice_get names i ≡ Some name = subst (λ (l : List (List ℕ)). slice_get l i ≡ Some name) c.as_slice-name-items.ensures (slice_get-get_or c.as_slice-name-items.result.now i name c.loop-name-test.true ∙ ap (λ (n : List ℕ). Some n) (sym c.name-item.is)) in
+    let at : slice_get names i ≡ Some name =
+    subst (λ (l : List (List ℕ)). slice_get l i ≡ Some name) c.as_slice-name-items.ensures
+    (slice_get-get_or c.as_slice-name-items.result.now i name c.loop-name-test.true ∙ ap (λ (n : List ℕ). Some n) (sym c.name-item.is)) in
     let a = desk_of (g.D.Notices.shows c.args.desk.now) (g.D.Notices.left c.args.desk.now) in
     let b = desk_of (g.D.Notices.shows c.loop-name.desk) (g.D.Notices.left c.loop-name.desk) in
     let d = desk_of (g.D.Notices.shows c.post_line.new.desk) (g.D.Notices.left c.post_line.new.desk) in

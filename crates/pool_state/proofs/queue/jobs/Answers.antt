@@ -14,7 +14,8 @@ use Rattle.pool_state.proofs.queue.jobs.Goals as goal
 pub loop-i-preserved : goal.loop-i-preserved
 loop-i-preserved c =
     let row = c.in_ok-row.field-0 in
-    rw (add-one c.loop-i.i) (c.in_ok-push.ensures.ok ∙ ap (λ (rows : List JobRow). rows ++ row ∷ []) c.loop-i.invariant ∙ rows-next (queue_of c.args.books.now) c.loop-i.i row c.in_ok-row.ensures)
+    rw (add-one c.loop-i.i) (c.in_ok-push.ensures.ok ∙ ap (λ (rows : List JobRow). rows ++ row ∷ []) c.loop-i.invariant
+    ∙ rows-next (queue_of c.args.books.now) c.loop-i.i row c.in_ok-row.ensures)
 
 pub returns-clause-reply : goal.returns-clause-reply
 returns-clause-reply c =

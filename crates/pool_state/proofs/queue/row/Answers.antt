@@ -7,7 +7,8 @@ use Rattle.pool_state.proofs.queue.row.Goals as goal
 pub names_of-requires : goal.names_of-requires
 names_of-requires c =
     let books = c.args.books.now in
-    slots-held (jobs_of books.claims) c.args.i c.standing-standing.result.now c.standing-standing.ensures (stock_of books.ads.store).slots c.slots.result.now books.listed c.slots.ensures
+    slots-held (jobs_of books.claims) c.args.i c.standing-standing.result.now c.standing-standing.ensures (stock_of books.ads.store).slots c.slots.result.now
+    books.listed c.slots.ensures
 
 pub returns : goal.returns
 returns c =

@@ -10,6 +10,8 @@ loop-start-preserved c = record {
 
 pub returns : goal.returns
 returns c = (
-  λ same. same_covered c.args.a.now c.args.b.now c.loop-start.start (length c.args.a.now - 8) 8 (omega (arith, c.loop-start-test.false)) (omega (arith, c.requires.long)) (omega (arith, c.requires.long, c.requires.same_length)) c.loop-start.invariant.same (c.have_eight_alike-2.ensures.0 same),
+  λ same. same_covered c.args.a.now c.args.b.now c.loop-start.start (length c.args.a.now - 8) 8 (omega (arith, c.loop-start-test.false))
+      (omega (arith, c.requires.long)) (omega (arith, c.requires.long, c.requires.same_length)) c.loop-start.invariant.same
+      (c.have_eight_alike-2.ensures.0 same),
   λ same. c.have_eight_alike-2.ensures.1 (ap (λ l. take 8 (drop (length c.args.a.now - 8) l)) same),
 )

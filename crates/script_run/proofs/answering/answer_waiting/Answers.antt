@@ -14,7 +14,8 @@ loop-refusals-init g c = record {
 
 pub returns-in_err-refusals-clause-stopped : goal.returns-in_err-refusals-clause-stopped
 returns-in_err-refusals-clause-stopped g c =
-    let stopped = Running-stopped g.M.Machine.rules g.met.M.Machine.lawful _ _ _ _ _ _ _ _ _ _ c.loop-refusals.invariant.running c.in_err-refusals.ensures.stopped in
+    let stopped =
+    Running-stopped g.M.Machine.rules g.met.M.Machine.lawful _ _ _ _ _ _ _ _ _ _ c.loop-refusals.invariant.running c.in_err-refusals.ensures.stopped in
     let exit = err_from_is_err_and c.from_residual.result c.from_residual.ensures.1 in
     rw (exit.1, exit.2) stopped
 

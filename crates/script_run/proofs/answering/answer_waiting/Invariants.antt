@@ -6,10 +6,15 @@ use Rattle.script_run.proofs.answering.answer_waiting.Given as goal
 
 abbrev pub invariant-loop-refusals : goal.invariant-loop-refusals
 invariant-loop-refusals g l = record {
-  running : Running g.M.Machine.rules (g.M.Machine.state l.initial.machine (g.D.Notices.shows l.initial.desk)) (g.M.Machine.state l.machine (g.D.Notices.shows l.desk)) (effects (g.K.Sink.shows l.initial.sink) l.initial.tops l.initial.touch (g.D.Notices.shows l.initial.desk)) (effects (g.K.Sink.shows l.sink) l.tops l.touch (g.D.Notices.shows l.desk)) (g.M.Machine.held l.initial.machine).waiting (g.M.Machine.held l.machine).waiting l.before l.refused;
+  running : Running g.M.Machine.rules (g.M.Machine.state l.initial.machine (g.D.Notices.shows l.initial.desk))
+      (g.M.Machine.state l.machine (g.D.Notices.shows l.desk))
+      (effects (g.K.Sink.shows l.initial.sink) l.initial.tops l.initial.touch (g.D.Notices.shows l.initial.desk))
+      (effects (g.K.Sink.shows l.sink) l.tops l.touch (g.D.Notices.shows l.desk)) (g.M.Machine.held l.initial.machine).waiting
+      (g.M.Machine.held l.machine).waiting l.before l.refused;
   ratio : l.entry + 9216 * l.initial.tops ≤ l.initial.entry + 9216 * l.tops;
   over : (g.M.Machine.held l.machine).over ≡ (g.M.Machine.held l.initial.machine).over;
-  stands : (bytes : List ℕ) (n : ℕ) → StandsFor g.M.Machine.rules.given (g.M.Machine.held l.initial.machine) bytes n → (m : ℕ) × StandsFor g.M.Machine.rules.given (g.M.Machine.held l.machine) bytes m;
+  stands : (bytes : List ℕ) (n : ℕ) → StandsFor g.M.Machine.rules.given (g.M.Machine.held l.initial.machine) bytes n
+      → (m : ℕ) × StandsFor g.M.Machine.rules.given (g.M.Machine.held l.machine) bytes m;
 }
 
 abbrev pub decreases-loop-refusals : goal.decreases-loop-refusals

@@ -9,14 +9,18 @@ loop-i-init c = counted-none (settings_of c.args.priorities.now) (jobs_of c.args
 
 pub count-requires : goal.count-requires
 count-requires c =
-    counted-few (settings_of c.args.priorities.now) (jobs_of c.args.claims.now) c.loop-i.i c.loop-i.tallies c.in_ok-key.key c.bytes.result.now c.loop-i.invariant
+    counted-few (settings_of c.args.priorities.now) (jobs_of c.args.claims.now) c.loop-i.i c.loop-i.tallies c.in_ok-key.key c.bytes.result.now
+    c.loop-i.invariant
     c.in_ok-key.ensures.number c.in_ok-key.ensures.name (omega (arith, c.loop-i-test.true, c.len-i-end.ensures.few))
 
 pub loop-i-preserved : goal.loop-i-preserved
 loop-i-preserved c =
-    counted-next (settings_of c.args.priorities.now) (jobs_of c.args.claims.now) c.loop-i.i c.loop-i.tallies c.count.new.tallies c.in_ok-key.key c.bytes.result.now c.standing.result.now c.state.result c.loop-i.invariant
+    counted-next (settings_of c.args.priorities.now) (jobs_of c.args.claims.now) c.loop-i.i c.loop-i.tallies c.count.new.tallies c.in_ok-key.key
+    c.bytes.result.now c.standing.result.now c.state.result c.loop-i.invariant
     (c.user.ensures ∙ ap Some (sym c.bytes.ensures)) c.standing.ensures c.state.ensures
     c.in_ok-key.ensures.number c.in_ok-key.ensures.name c.in_ok-count.ensures.entries c.in_ok-count.ensures.updates
 
 pub returns : goal.returns
-returns c = counted-all (settings_of c.args.priorities.now) (jobs_of c.args.claims.now) c.loop-i.i c.loop-i.tallies c.loop-i.invariant (omega (arith, c.loop-i-test.false, c.len-i-end.ensures.len))
+returns c =
+    counted-all (settings_of c.args.priorities.now) (jobs_of c.args.claims.now) c.loop-i.i c.loop-i.tallies c.loop-i.invariant
+    (omega (arith, c.loop-i-test.false, c.len-i-end.ensures.len))

@@ -12,4 +12,5 @@ loop-i-preserved c =
     c.user.ensures c.in_ok-key.ensures.number c.in_ok-key.ensures.name c.in_ok-insert.ensures.entries c.in_ok-insert.ensures.updates
 
 pub returns : goal.returns
-returns c = set-all (settings_of c.args.priorities.now) c.loop-i.i c.loop-i.tallies c.loop-i.invariant (omega (arith, c.loop-i-test.false, c.len-i-end.ensures.len))
+returns c =
+    set-all (settings_of c.args.priorities.now) c.loop-i.i c.loop-i.tallies c.loop-i.invariant (omega (arith, c.loop-i-test.false, c.len-i-end.ensures.len))

@@ -11,5 +11,6 @@ returns c =
     on_ok_weaker c.append-4.result
     (five-pieces c.args.text.now (codes "[ Owner = \"") (owner c.args.j) (codes "\"; Requirements = TARGET.Arch == \"A") (decimal (c.args.j % 4))
     (codes "\" && TARGET.Memory >= 128; Rank = TARGET.Memory ]")
-    c.in_ok-append.ensures.ok (c.in_ok-append-2.ensures.ok ∙ ap (λ (z : List ℕ). c.append.new.self ++ z) c.owner.ensures) c.in_ok-append-3.ensures.ok c.in_ok-append_count.ensures.ok)
+    c.in_ok-append.ensures.ok (c.in_ok-append-2.ensures.ok ∙ ap (λ (z : List ℕ). c.append.new.self ++ z) c.owner.ensures) c.in_ok-append-3.ensures.ok
+    c.in_ok-append_count.ensures.ok)
     c.append-4.ensures.ok

@@ -6,5 +6,6 @@ use Rattle.ad_builder.proofs.builder.Builder.call.Goals as goal
 
 pub returns-in-Ok : goal.returns-in-Ok
 returns-in-Ok c = λ is_ad st h.
-    on_ok c.put.result (λ put. leaf-carried is_ad st (call c.args.name) (tree-Call c.args.name c.in-Ok.arguments ∙ ap (λ ts. node (call c.args.name) (pack ts)) c.in-Ok.ensures)
+    on_ok c.put.result (λ put. leaf-carried is_ad st (call c.args.name)
+    (tree-Call c.args.name c.in-Ok.arguments ∙ ap (λ ts. node (call c.args.name) (pack ts)) c.in-Ok.ensures)
     (c.leaf.ensures (call c.args.name) refl) put h) c.put.ensures

@@ -16,5 +16,6 @@ returns-in-Literal c = λ is_ad st h.
 pub returns-in-Name : goal.returns-in-Name
 returns-in-Name c = λ is_ad st h.
     subst (λ i. OnOk c.add-in-Name.result (Holds is_ad c.add-in-Name.new.self (step instructions.Element (step i st)))) (sym c.in-Name.is)
-    (on_ok c.add-in-Name.result (λ taken. leaf-added is_ad st (name c.in-Name.scope c.in-Name.name) c.leaf-in-Name.result _ (tree-Name c.in-Name.scope c.in-Name.name)
+    (on_ok c.add-in-Name.result (λ taken. leaf-added is_ad st (name c.in-Name.scope c.in-Name.name) c.leaf-in-Name.result
+    _ (tree-Name c.in-Name.scope c.in-Name.name)
     (c.leaf-in-Name.ensures (name c.in-Name.scope c.in-Name.name) refl) taken h) c.add-in-Name.ensures)

@@ -6,7 +6,8 @@ use Rattle.ad_builder.proofs.machine.Machine.push.Goals as goal
 
 pub invariant_of-self : goal.invariant_of-self
 invariant_of-self c =
-    stays-high c.self.inside.is_ad c.self.inside.builder c.self.inside.builder c.self.inside.history.instructions c.with-self-inside.result.instructions c.args.instruction
+    stays-high c.self.inside.is_ad c.self.inside.builder c.self.inside.builder c.self.inside.history.instructions c.with-self-inside.result.instructions
+    c.args.instruction
     c.with-self-inside.ensures c.self.invariant c.if-self.true
 
 pub returns-then-self-clause-ok : goal.returns-then-self-clause-ok
@@ -16,7 +17,8 @@ returns-then-self-clause-ok c =
 
 pub invariant_of-self-in-Ok : goal.invariant_of-self-in-Ok
 invariant_of-self-in-Ok c =
-    goes-on c.self.inside.is_ad c.self.inside.builder c.carry_out.new.self c.self.inside.history.instructions c.with-self-inside.result.instructions c.args.instruction
+    goes-on c.self.inside.is_ad c.self.inside.builder c.carry_out.new.self c.self.inside.history.instructions c.with-self-inside.result.instructions
+    c.args.instruction
     c.with-self-inside.ensures c.self.invariant c.last_height.result c.if-self.false
     (λ h. c.in-Ok.ensures c.self.inside.is_ad (stack c.self.inside.history.instructions) h) (λ st h. c.last_height.ensures c.self.inside.is_ad st h)
 

@@ -7,23 +7,27 @@ use Rattle.ad_builder.proofs.machine.Machine.push_leaf.Goals as goal
 
 pub invariant_of-self : goal.invariant_of-self
 invariant_of-self c =
-    element-stays-high c.self.inside.history.instructions c.with.result.instructions c.with-self-inside.result.instructions c.args.leaf c.with.ensures c.with-self-inside.ensures
+    element-stays-high c.self.inside.history.instructions c.with.result.instructions c.with-self-inside.result.instructions c.args.leaf c.with.ensures
+    c.with-self-inside.ensures
     c.self.inside.is_ad c.self.inside.builder c.self.inside.builder c.self.invariant c.if-self.true
 
 pub returns-then-self-clause-ok : goal.returns-then-self-clause-ok
 returns-then-self-clause-ok c =
-    stack-element c.self.inside.history.instructions c.with.result.instructions c.with-self-inside.result.instructions c.args.leaf c.with.ensures c.with-self-inside.ensures
+    stack-element c.self.inside.history.instructions c.with.result.instructions c.with-self-inside.result.instructions c.args.leaf c.with.ensures
+    c.with-self-inside.ensures
     ∙ ap (λ is. step instructions.Element (step c.args.leaf (stack is))) c.self.view_is
 
 pub invariant_of-self-in-Ok : goal.invariant_of-self-in-Ok
 invariant_of-self-in-Ok c =
-    element-goes-on c.self.inside.history.instructions c.with.result.instructions c.with-self-inside.result.instructions c.args.leaf c.with.ensures c.with-self-inside.ensures
+    element-goes-on c.self.inside.history.instructions c.with.result.instructions c.with-self-inside.result.instructions c.args.leaf c.with.ensures
+    c.with-self-inside.ensures
     c.self.inside.is_ad c.self.inside.builder c.carry_out_element.new.self c.self.invariant c.last_height-height.result c.requires c.if-self.false
     (λ h. c.in-Ok.ensures c.self.inside.is_ad (stack c.self.inside.history.instructions) h) (λ st h. c.last_height-height.ensures c.self.inside.is_ad st h)
 
 pub returns-in-Ok-clause-ok : goal.returns-in-Ok-clause-ok
 returns-in-Ok-clause-ok c =
-    stack-element c.self.inside.history.instructions c.with.result.instructions c.with-self-inside.result.instructions c.args.leaf c.with.ensures c.with-self-inside.ensures
+    stack-element c.self.inside.history.instructions c.with.result.instructions c.with-self-inside.result.instructions c.args.leaf c.with.ensures
+    c.with-self-inside.ensures
     ∙ ap (λ is. step instructions.Element (step c.args.leaf (stack is))) c.self.view_is
 
 pub returns-in-Err-clause-high : goal.returns-in-Err-clause-high

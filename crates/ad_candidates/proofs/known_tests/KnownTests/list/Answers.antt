@@ -9,7 +9,9 @@ pub returns-in_err-push : goal.returns-in_err-push
 returns-in_err-push c =
     λ ads are one. record {
       counted = are.counted;
-      listed = subst (All (λ (listed : Listed). ArePlaces ads listed.test listed.places)) (sym (c.in_err-push.ensures.items ∙ c.make_room.ensures)) (All-room (λ (listed : Listed). ArePlaces ads listed.test listed.places) c.args.self.now.listed.items are.listed);
+      listed =
+          subst (All (λ (listed : Listed). ArePlaces ads listed.test listed.places)) (sym (c.in_err-push.ensures.items ∙ c.make_room.ensures))
+          (All-room (λ (listed : Listed). ArePlaces ads listed.test listed.places) c.args.self.now.listed.items are.listed);
     }
 
 pub returns : goal.returns
@@ -22,5 +24,6 @@ returns c =
       listed =
           subst (All P) (sym (c.in_ok-push.ensures.items ∙ ap (λ (xs : List Listed). xs ++ one ∷ []) c.make_room.ensures))
           (All-room-more P c.args.self.now.listed.items one are.listed
-          (subst (λ (t : Test). ArePlaces ads t c.in_ok-places.places) (sym c.in_ok-test.ensures) (subst (λ (places : List ℕ). ArePlaces ads c.args.test.now places) (sym c.in_ok-places.ensures) those)));
+          (subst (λ (t : Test). ArePlaces ads t c.in_ok-places.places) (sym c.in_ok-test.ensures)
+          (subst (λ (places : List ℕ). ArePlaces ads c.args.test.now places) (sym c.in_ok-places.ensures) those)));
     }

@@ -11,7 +11,8 @@ pub returns-in_err-note : goal.returns-in_err-note
 returns-in_err-note c =
     λ ads are low.
     c.note.ensures ads (c.loop-test.invariant ads are low)
-    (All-at (λ (test : Test). c.args.least ≤ left_by ads test) c.args.tests.now c.as_slice-test-items.result.now c.loop-test.test-index c.test-item.result low c.as_slice-test-items.ensures c.loop-test-test.true c.test-item.is)
+    (All-at (λ (test : Test). c.args.least ≤ left_by ads test) c.args.tests.now c.as_slice-test-items.result.now c.loop-test.test-index c.test-item.result
+    low c.as_slice-test-items.ensures c.loop-test-test.true c.test-item.is)
 
 pub loop-test-preserved : goal.loop-test-preserved
 loop-test-preserved c =
@@ -21,6 +22,7 @@ loop-test-preserved c =
       | then-not-leaves+in_ok-note w ↦
           subst (λ (known : KnownTests). AreTestsKnown ads known) (sym w.self-is)
           (w.note.ensures ads so_far
-          (All-at (λ (test : Test). c.args.least ≤ left_by ads test) c.args.tests.now c.as_slice-test-items.result.now c.loop-test.test-index c.test-item.result low c.as_slice-test-items.ensures c.loop-test-test.true c.test-item.is))
+          (All-at (λ (test : Test). c.args.least ≤ left_by ads test) c.args.tests.now c.as_slice-test-items.result.now c.loop-test.test-index
+          c.test-item.result low c.as_slice-test-items.ensures c.loop-test-test.true c.test-item.is))
       | else-not-leaves w ↦ subst (λ (known : KnownTests). AreTestsKnown ads known) (sym w.self-is) so_far
     ]

@@ -12,5 +12,6 @@ places_of-requires c =
 pub returns : goal.returns
 returns c =
     let stock = stock_of c.args.store.now in
-    left-places stock.ads stock.slots (sym c.len-len.ensures.ads ∙ c.len-len.ensures.slots) c.slots_are_apart.ensures c.args.self c.in_ok-slots.slots c.in_ok-places_of.field-0
+    left-places stock.ads stock.slots (sym c.len-len.ensures.ads ∙ c.len-len.ensures.slots) c.slots_are_apart.ensures c.args.self c.in_ok-slots.slots
+    c.in_ok-places_of.field-0
     (c.in_ok-slots.ensures (rows_of stock) c.requires.index) c.in_ok-places_of.ensures

@@ -11,7 +11,8 @@ use Rattle.ad_grammar.proofs.reader.Reader.literal.Goals as goal
 pub content-requires-clause-quotation : goal.content-requires-clause-quotation
 content-requires-clause-quotation c = λ l reads.
     let same = same-token c.args.self.now.tokens c.args.self.now.at (lexeme c.in-Some.token) l c.in-Some.ensures.stands reads in
-    subst (λ (t : Lexeme). ∥ IsQuotation t.text ∥₁) same (∥∥₁_map c.in-Some.ensures.spelled (λ spells. string-quotation c.in-Some.token.kind c.in-Some.token.text.now c.in-Str.is spells))
+    subst (λ (t : Lexeme). ∥ IsQuotation t.text ∥₁) same
+    (∥∥₁_map c.in-Some.ensures.spelled (λ spells. string-quotation c.in-Some.token.kind c.in-Some.token.text.now c.in-Str.is spells))
 
 pub returns-in_ok-text-in-Str-clause-some : goal.returns-in_ok-text-in-Str-clause-some
 returns-in_ok-text-in-Str-clause-some c = λ lit same.

@@ -18,5 +18,7 @@ pub returns-in_default : goal.returns-in_default
 returns-in_default c = record {
   some = λ text same. absurd cc;
   kept = λ same. refl;
-  other = λ same text rest is. c.in_default.not-Plain (plain-at c.args.self.now.tokens c.args.self.now.at (lexeme c.at-token.result) text rest c.at-token.ensures is);
+  other =
+      λ same text rest is. c.in_default.not-Plain (plain-at c.args.self.now.tokens c.args.self.now.at (lexeme c.at-token.result) text rest c.at-token.ensures
+      is);
 }

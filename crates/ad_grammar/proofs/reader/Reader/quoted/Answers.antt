@@ -10,7 +10,8 @@ use Rattle.ad_grammar.proofs.reader.Reader.quoted.Goals as goal
 pub content-requires-clause-quotation : goal.content-requires-clause-quotation
 content-requires-clause-quotation c = λ l reads.
     let same = same-token c.args.self.now.tokens c.args.self.now.at (lexeme c.in-Some.token) l c.in-Some.ensures.stands reads in
-    subst (λ (t : Lexeme). ∥ IsQuotation t.text ∥₁) same (∥∥₁_map c.in-Some.ensures.spelled (λ spells. name-quotation c.in-Some.token.kind c.in-Some.token.text.now c.in-Quoted.is spells))
+    subst (λ (t : Lexeme). ∥ IsQuotation t.text ∥₁) same
+    (∥∥₁_map c.in-Some.ensures.spelled (λ spells. name-quotation c.in-Some.token.kind c.in-Some.token.text.now c.in-Quoted.is spells))
 
 pub returns-in_ok-name-in-Quoted-clause-some : goal.returns-in_ok-name-in-Quoted-clause-some
 returns-in_ok-name-in-Quoted-clause-some c = λ text same.

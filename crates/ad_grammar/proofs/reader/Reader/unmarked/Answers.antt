@@ -7,7 +7,15 @@ use Rattle.ad_grammar.proofs.reader.Reader.unmarked.Goals as goal
 pub returns-then-self-len : goal.returns-then-self-len
 returns-then-self-len c =
     let reader = c.args.self.now in
-    record { some = tt; is = tt; spelled = tt; stands = tt; none = λ same none. none-behind reader.tokens reader.at (omega (arith, c.if-self-len.true, c.len.ensures.value)) }
+    record {
+      some =
+          tt;
+      is =
+          tt;
+      spelled = tt;
+      stands = tt;
+      none = λ same none. none-behind reader.tokens reader.at (omega (arith, c.if-self-len.true, c.len.ensures.value));
+    }
 
 pub returns-in-Some : goal.returns-in-Some
 returns-in-Some c =

@@ -1,4 +1,4 @@
-use Rattle.std.proofs.Common.{subst, All, ◌∙◌, ◌≤◌}
+use Rattle.std.proofs.Common.{subst, All, ◌≤◌}
 use Rattle.slab.specs.Slab.{get}
 use Rattle.ad_store.specs.Held.{end_of}
 use Rattle.ad_store.proofs.EndLemmas.{ends-slots}
@@ -7,5 +7,5 @@ use Rattle.ad_store.proofs.store.Store.note_soonest.Goals as goal
 pub invariant_of-self-clause-due : goal.invariant_of-self-clause-due
 invariant_of-self-clause-due c =
     let store = c.args.self.now in
-    ends-slots c.soonest_end-self.result store.table store.names.entries
-    (subst (All (λ slot. c.soonest_end-self.result ≤ end_of (get store.table slot))) (c.as_slice.ensures ∙ c.values.ensures.rest) c.soonest_end-self.ensures)
+    ends-slots c.soonest_end-self.result store.table store.order
+    (subst (All (λ slot. c.soonest_end-self.result ≤ end_of (get store.table slot))) c.cells.ensures c.soonest_end-self.ensures)

@@ -1,46 +1,88 @@
-use Rattle.std.proofs.Common.{◌≡◌, ◌<◌, ◌≤◌, ◌∙◌, All, Some, ap, arith, cond, length, slice_get, slice_set, subst, sym, vec_len}
-use Rattle.std.specs.Option.{option_map_or}
+use Rattle.std.proofs.Common.{◌≡◌, ℕ, ◌<◌, ◌≤◌, ◌∙◌, All, Some, ap, arith, cond, is_some, length, subst, sym, vec_len}
 use Rattle.std.proofs.lemmas.List.Elements.{All-weaker}
+use Rattle.claim_table.specs.declared.job.Job.{Job}
 use Rattle.claim_table.specs.declared.job.Stage.{Stage}
-use Rattle.claim_table.specs.Jobs.{lists, wanted}
-use Rattle.claim_table.specs.Kept.{IsKept, note_at}
-use Rattle.claim_table.proofs.ChangeLemmas.{offered_kept}
-use Rattle.claim_table.proofs.ListLemmas.{read_at, value_at, within_at}
+use Rattle.claim_table.specs.JobList.{jobs_in, slots_in}
+use Rattle.claim_table.specs.Jobs.{claim_of, lists, offer_of, wanted}
+use Rattle.claim_table.specs.Kept.{AreThere, IsKept, note_at, numbers}
+use Rattle.claim_table.proofs.ChangeLemmas.{offered_kept, renoted}
+use Rattle.claim_table.proofs.ListLemmas.{job_found, restood, value_at, within_at}
 use Rattle.claim_table.proofs.NoteLemmas.{marked-everywhere}
+use Rattle.claim_table.proofs.NumberLemmas.{length-numbers, numbers-put, numbers-same, stands-put, stands-same}
 use Rattle.claim_table.proofs.table.ClaimTable.offer.Goals as goal
 
-pub index_mut-requires : goal.index_mut-requires
-index_mut-requires c =
-    let within = within_at (λ j. j.standing) c.args.self.now.jobs.items c.args.i Stage.Idle c.requires.idle in
-    omega (arith, within, c.args.self.now.jobs.ok.0)
+pub slot-job-requires : goal.slot-job-requires
+slot-job-requires c = within_at (λ j. j.standing) (jobs_in c.args.self.now.jobs) c.args.i Stage.Idle c.requires.idle
+
+pub restand-idle-requires : goal.restand-idle-requires
+restand-idle-requires c = within_at (λ j. j.standing) (jobs_in c.args.self.now.jobs) c.args.i Stage.Idle c.requires.idle
 
 pub invariant_of-self-2 : goal.invariant_of-self-2
 invariant_of-self-2 c =
     let t = c.args.self.now in
     let i = c.args.i in
-    let slots = c.args.slots in
-    let job = c.index_mut.result.now in
-    let at : slice_get t.jobs.items i ≡ Some job = read_at (λ j. j.standing) t.jobs.items i Stage.Idle job c.requires.idle c.index_mut.ensures.value in
+    let list = c.args.slots in
+    let slots = slots_in t.jobs in
+    let jobs = jobs_in t.jobs in
+    let key = c.slot-job.result in
+    let found = job_found (λ j. j.standing) jobs i Stage.Idle c.requires.idle in
+    let job : Job = found.0 in
     let wide = c.widen.new.offers in
-    let same : length c.put.new.notes.items ≡ length wide.items = omega (arith, c.put.ensures.len, c.put.new.notes.ok.0, wide.ok.0) in
-    let room : length c.put.new.notes.items ≤ length c.widen.new.claims.items = omega (arith, same, c.widen.ensures.room, c.widen.new.claims.ok.0, wide.ok.0) in
-    let reached : All (λ s. s < length wide.items) slots = All-weaker (λ s. s < vec_len wide) (λ s. s < length wide.items) (λ s less. omega (arith, wide.ok.0)) slots (subst (All (λ s. s < vec_len wide)) c.as_slice.ensures c.in_ok-widen.ensures.reached) in
+    let offers = c.put.new.notes.items in
+    let claims = c.widen.new.claims.items in
+    let same : length offers ≡ length wide.items = omega (arith, c.put.ensures.len, c.put.new.notes.ok.0, wide.ok.0) in
+    let room : length (numbers slots offers) ≤ length (numbers slots claims) =
+    omega (arith, same, c.widen.ensures.room, c.widen.new.claims.ok.0, wide.ok.0, length-numbers slots offers, length-numbers slots claims) in
+    let reached : All (λ s. s < length wide.items) list =
+    All-weaker (λ s. s < vec_len wide) (λ s. s < length wide.items) (λ s less. omega (arith, less, wide.ok.0)) list
+    (subst (All (λ s. s < vec_len wide)) c.as_slice.ensures c.in_ok-widen.ensures.reached) in
+    let marks : (slot : ℕ) → note_at offers slot ≡ cond (lists list slot) (Some key) (note_at t.offers.items slot) = λ slot.
+    marked-everywhere wide.items offers list (Some key) same reached
+    (λ other within. c.put.ensures.notes other (omega (arith, within, wide.ok.0))
+    ∙ ap (λ s. cond (lists s other) (Some key) (note_at wide.items other)) c.as_slice-2.ensures) slot
+    ∙ ap (cond (lists list slot) (Some key)) (c.widen.ensures.offers slot) in
     record {
-      kept = subst (λ s. IsKept t.names.keys (slice_set t.jobs.items i (record job { standing = s })) c.put.new.notes.items c.widen.new.claims.items t.text) (sym c.replace-idle.ensures.after)
-          (offered_kept t.names.keys t.jobs.items t.offers.items t.claims.items t.text t.kept i job at slots c.put.new.notes.items c.widen.new.claims.items
-          (value_at (λ j. j.standing) t.jobs.items i Stage.Idle job at c.requires.idle)
-          (value_at (λ j. wanted j.request) t.jobs.items i (length slots) job at c.requires.wanted)
-          c.requires.free c.requires.distinct room
-          (λ slot. marked-everywhere wide.items c.put.new.notes.items slots (Some i) same reached
-          (λ other within. c.put.ensures.notes other (omega (arith, wide.ok.0)) ∙ ap (λ s. cond (lists s other) (Some i) (note_at wide.items other)) c.as_slice-2.ensures) slot
-          ∙ ap (cond (lists slots slot) (Some i)) (c.widen.ensures.offers slot))
-          c.widen.ensures.claims);
+      kept = subst (λ l. IsKept (jobs_in c.restand-idle.new.self) (numbers l offers) (numbers l claims) t.text) (sym c.restand-idle.ensures.slots)
+          (subst (λ js. IsKept js (numbers slots offers) (numbers slots claims) t.text)
+          (sym (c.restand-idle.ensures.jobs ∙ restood jobs i job (Stage.Matched list) found.1))
+          (offered_kept jobs (numbers slots t.offers.items) (numbers slots t.claims.items) t.text t.kept i job found.1 list (numbers slots offers)
+          (numbers slots claims)
+          found.2 (value_at (λ j. wanted j.request) jobs i (length list) job found.1 c.requires.wanted) c.requires.free c.requires.distinct room
+          (λ slot. numbers-put slots t.offers.items offers slot (lists list slot) (Some key) (marks slot)
+          ∙ ap (λ n. cond (lists list slot) n (note_at (numbers slots t.offers.items) slot)) c.slot-job.ensures.number)
+          (λ slot. numbers-same slots t.claims.items claims slot (c.widen.ensures.claims slot))));
+      there = subst (λ l. AreThere l offers claims) (sym c.restand-idle.ensures.slots)
+          (record {
+            offered =
+                λ slot. stands-put slots t.offers.items offers slot (lists list slot) (Some key) (ap is_some c.slot-job.ensures.number) (marks slot)
+                (t.there.offered slot);
+            claimed = λ slot. stands-same slots t.claims.items claims slot (c.widen.ensures.claims slot) (t.there.claimed slot);
+          });
     }
 
-pub returns-clause-ok : goal.returns-clause-ok
-returns-clause-ok c =
+pub invariant_of-self : goal.invariant_of-self
+invariant_of-self c =
     let t = c.args.self.now in
-    let job = c.index_mut.result.now in
-    let at : slice_get t.jobs.items c.args.i ≡ Some job = read_at (λ j. j.standing) t.jobs.items c.args.i Stage.Idle job c.requires.idle c.index_mut.ensures.value in
-    ap (λ s. slice_set t.jobs.items c.args.i (record job { standing = s })) c.replace-idle.ensures.after
-    ∙ sym (ap (λ o. option_map_or (λ j. slice_set t.jobs.items c.args.i (record j { standing = Stage.Matched c.args.slots })) o t.jobs.items) at)
+    let slots = slots_in t.jobs in
+    let jobs = jobs_in t.jobs in
+    let offers = c.widen.new.offers.items in
+    let claims = c.widen.new.claims.items in
+    record {
+      kept = record {
+        offered =
+            renoted offer_of (numbers slots t.offers.items) (numbers slots offers) jobs t.kept.offered
+            (λ slot. numbers-same slots t.offers.items offers slot (c.widen.ensures.offers slot));
+        claimed =
+            renoted claim_of (numbers slots t.claims.items) (numbers slots claims) jobs t.kept.claimed
+            (λ slot. numbers-same slots t.claims.items claims slot (c.widen.ensures.claims slot));
+        room = omega (arith, c.widen.ensures.room, c.widen.new.offers.ok.0, c.widen.new.claims.ok.0, length-numbers slots offers, length-numbers slots claims);
+        counted = t.kept.counted;
+        within = t.kept.within;
+        few = t.kept.few;
+        filled = t.kept.filled;
+      };
+      there = record {
+        offered = λ slot. stands-same slots t.offers.items offers slot (c.widen.ensures.offers slot) (t.there.offered slot);
+        claimed = λ slot. stands-same slots t.claims.items claims slot (c.widen.ensures.claims slot) (t.there.claimed slot);
+      };
+    }

@@ -17,29 +17,42 @@ pub returns-in_default-clause-passes : goal.returns-in_default-clause-passes
 returns-in_default-clause-passes g c =
     let w = world_of c.args.world.now in
     let request = c.args.request.now in
-    let decided = decided-here w request (ad_frames c.args.ad.now) c.request_place.result c.request_place.ensures c.requires.request c.requires.ports c.requires.last in
-    decided-fails c.args.moment (stock_of c.args.store.now) (settings_of c.args.priorities.now) (jobs_of c.args.self.now) c.args.number c.args.slot w c.requires.docked (sym decided ∙ none-undecided (ad_frames request.ad) c.request_place.result.frame (labels_of request.ports) (ad_frames c.args.ad.now) (sym c.open_sides.ensures ∙ c.in_default.is))
+    let decided =
+    decided-here w request (ad_frames c.args.ad.now) c.request_place.result c.request_place.ensures c.requires.request c.requires.ports c.requires.last in
+    decided-fails c.args.moment (stock_of c.args.store.now) (settings_of c.args.priorities.now) (jobs_of c.args.self.now) c.args.number c.args.slot w
+    c.requires.docked (sym decided ∙ none-undecided (ad_frames request.ad) c.request_place.result.frame (labels_of request.ports) (ad_frames
+    c.args.ad.now) (sym c.open_sides.ensures ∙ c.in_default.is))
 
 pub dock-requires-clause-left : goal.dock-requires-clause-left
 dock-requires-clause-left g c =
-    sym (open-here (world_of c.args.world.now) c.args.request.now (ad_frames c.args.ad.now) c.request_place.result c.request_place.ensures c.requires.request c.requires.ports c.requires.last)
+    sym (open-here (world_of c.args.world.now) c.args.request.now (ad_frames c.args.ad.now) c.request_place.result c.request_place.ensures c.requires.request
+    c.requires.ports c.requires.last)
     ∙ sym c.open_sides.ensures
     ∙ c.in-Some.is
 
 pub returns-in_err-dock-clause-evaluations : goal.returns-in_err-dock-clause-evaluations
 returns-in_err-dock-clause-evaluations g c =
     let w = world_of c.args.world.now in
-    let decided = decided-here w c.args.request.now (ad_frames c.args.ad.now) c.request_place.result c.request_place.ensures c.requires.request c.requires.ports c.requires.last in
-    let undecided : is_last_decided w ≡ false = sym decided ∙ some-undecided (ad_frames c.args.request.now.ad) c.request_place.result.frame (labels_of c.args.request.now.ports) (ad_frames c.args.ad.now) c.in-Some.sides (sym c.open_sides.ensures ∙ c.in-Some.is) in
+    let decided =
+    decided-here w c.args.request.now (ad_frames c.args.ad.now) c.request_place.result c.request_place.ensures c.requires.request c.requires.ports
+    c.requires.last in
+    let undecided : is_last_decided w ≡ false =
+    sym decided ∙ some-undecided (ad_frames c.args.request.now.ad) c.request_place.result.frame (labels_of c.args.request.now.ports) (ad_frames
+    c.args.ad.now) c.in-Some.sides (sym c.open_sides.ensures ∙ c.in-Some.is) in
     let one = ap {B = ℕ} (λ (b : Bool). if b then 0 else 1) undecided in
     omega (arith, one, c.dock.ensures.evaluations)
 
 pub returns-in_err-dock-clause-entries : goal.returns-in_err-dock-clause-entries
 returns-in_err-dock-clause-entries g c =
     let w = world_of c.args.world.now in
-    let decided = decided-here w c.args.request.now (ad_frames c.args.ad.now) c.request_place.result c.request_place.ensures c.requires.request c.requires.ports c.requires.last in
-    let undecided : is_last_decided w ≡ false = sym decided ∙ some-undecided (ad_frames c.args.request.now.ad) c.request_place.result.frame (labels_of c.args.request.now.ports) (ad_frames c.args.ad.now) c.in-Some.sides (sym c.open_sides.ensures ∙ c.in-Some.is) in
-    let entered = entered-open c.args.moment (stock_of c.args.store.now) (settings_of c.args.priorities.now) (jobs_of c.args.self.now) c.args.slot w undecided in
+    let decided =
+    decided-here w c.args.request.now (ad_frames c.args.ad.now) c.request_place.result c.request_place.ensures c.requires.request c.requires.ports
+    c.requires.last in
+    let undecided : is_last_decided w ≡ false =
+    sym decided ∙ some-undecided (ad_frames c.args.request.now.ad) c.request_place.result.frame (labels_of c.args.request.now.ports) (ad_frames
+    c.args.ad.now) c.in-Some.sides (sym c.open_sides.ensures ∙ c.in-Some.is) in
+    let entered =
+    entered-open c.args.moment (stock_of c.args.store.now) (settings_of c.args.priorities.now) (jobs_of c.args.self.now) c.args.slot w undecided in
     omega (arith, entered, c.dock.ensures.entries)
 
 pub returns-in_err-dock-clause-ratio : goal.returns-in_err-dock-clause-ratio
@@ -47,22 +60,32 @@ returns-in_err-dock-clause-ratio g c world ads jobs = omega (arith, c.dock.ensur
 
 pub returns-then-not-branch-clause-passes : goal.returns-then-not-branch-clause-passes
 returns-then-not-branch-clause-passes g c =
-    undocked-fails c.args.moment (stock_of c.args.store.now) (settings_of c.args.priorities.now) (jobs_of c.args.self.now) c.args.number c.args.slot (world_of c.args.world.now) (sym c.in_ok-dock.ensures.value ∙ c.if-not-branch.true)
+    undocked-fails c.args.moment (stock_of c.args.store.now) (settings_of c.args.priorities.now) (jobs_of c.args.self.now) c.args.number c.args.slot
+    (world_of c.args.world.now) (sym c.in_ok-dock.ensures.value ∙ c.if-not-branch.true)
 
 pub returns-then-not-branch-clause-evaluations : goal.returns-then-not-branch-clause-evaluations
 returns-then-not-branch-clause-evaluations g c =
     let w = world_of c.args.world.now in
-    let decided = decided-here w c.args.request.now (ad_frames c.args.ad.now) c.request_place.result c.request_place.ensures c.requires.request c.requires.ports c.requires.last in
-    let undecided : is_last_decided w ≡ false = sym decided ∙ some-undecided (ad_frames c.args.request.now.ad) c.request_place.result.frame (labels_of c.args.request.now.ports) (ad_frames c.args.ad.now) c.in-Some.sides (sym c.open_sides.ensures ∙ c.in-Some.is) in
+    let decided =
+    decided-here w c.args.request.now (ad_frames c.args.ad.now) c.request_place.result c.request_place.ensures c.requires.request c.requires.ports
+    c.requires.last in
+    let undecided : is_last_decided w ≡ false =
+    sym decided ∙ some-undecided (ad_frames c.args.request.now.ad) c.request_place.result.frame (labels_of c.args.request.now.ports) (ad_frames
+    c.args.ad.now) c.in-Some.sides (sym c.open_sides.ensures ∙ c.in-Some.is) in
     let one = ap {B = ℕ} (λ (b : Bool). if b then 0 else 1) undecided in
     omega (arith, one, c.dock.ensures.evaluations)
 
 pub returns-then-not-branch-clause-entries : goal.returns-then-not-branch-clause-entries
 returns-then-not-branch-clause-entries g c =
     let w = world_of c.args.world.now in
-    let decided = decided-here w c.args.request.now (ad_frames c.args.ad.now) c.request_place.result c.request_place.ensures c.requires.request c.requires.ports c.requires.last in
-    let undecided : is_last_decided w ≡ false = sym decided ∙ some-undecided (ad_frames c.args.request.now.ad) c.request_place.result.frame (labels_of c.args.request.now.ports) (ad_frames c.args.ad.now) c.in-Some.sides (sym c.open_sides.ensures ∙ c.in-Some.is) in
-    let entered = entered-open c.args.moment (stock_of c.args.store.now) (settings_of c.args.priorities.now) (jobs_of c.args.self.now) c.args.slot w undecided in
+    let decided =
+    decided-here w c.args.request.now (ad_frames c.args.ad.now) c.request_place.result c.request_place.ensures c.requires.request c.requires.ports
+    c.requires.last in
+    let undecided : is_last_decided w ≡ false =
+    sym decided ∙ some-undecided (ad_frames c.args.request.now.ad) c.request_place.result.frame (labels_of c.args.request.now.ports) (ad_frames
+    c.args.ad.now) c.in-Some.sides (sym c.open_sides.ensures ∙ c.in-Some.is) in
+    let entered =
+    entered-open c.args.moment (stock_of c.args.store.now) (settings_of c.args.priorities.now) (jobs_of c.args.self.now) c.args.slot w undecided in
     omega (arith, entered, c.dock.ensures.entries)
 
 pub returns-then-not-branch-clause-ratio : goal.returns-then-not-branch-clause-ratio
@@ -70,22 +93,32 @@ returns-then-not-branch-clause-ratio g c world ads jobs = omega (arith, c.dock.e
 
 pub returns-clause-passes : goal.returns-clause-passes
 returns-clause-passes g c =
-    docked-wins c.wins.result c.args.moment (stock_of c.args.store.now) (settings_of c.args.priorities.now) (jobs_of c.args.self.now) c.args.number c.args.slot (world_of c.args.world.now) (sym c.in_ok-dock.ensures.value ∙ c.if-not-branch.false) c.wins.ensures.won
+    docked-wins c.wins.result c.args.moment (stock_of c.args.store.now) (settings_of c.args.priorities.now) (jobs_of c.args.self.now) c.args.number c.args.slot
+    (world_of c.args.world.now) (sym c.in_ok-dock.ensures.value ∙ c.if-not-branch.false) c.wins.ensures.won
 
 pub returns-clause-evaluations : goal.returns-clause-evaluations
 returns-clause-evaluations g c =
     let w = world_of c.args.world.now in
-    let decided = decided-here w c.args.request.now (ad_frames c.args.ad.now) c.request_place.result c.request_place.ensures c.requires.request c.requires.ports c.requires.last in
-    let undecided : is_last_decided w ≡ false = sym decided ∙ some-undecided (ad_frames c.args.request.now.ad) c.request_place.result.frame (labels_of c.args.request.now.ports) (ad_frames c.args.ad.now) c.in-Some.sides (sym c.open_sides.ensures ∙ c.in-Some.is) in
+    let decided =
+    decided-here w c.args.request.now (ad_frames c.args.ad.now) c.request_place.result c.request_place.ensures c.requires.request c.requires.ports
+    c.requires.last in
+    let undecided : is_last_decided w ≡ false =
+    sym decided ∙ some-undecided (ad_frames c.args.request.now.ad) c.request_place.result.frame (labels_of c.args.request.now.ports) (ad_frames
+    c.args.ad.now) c.in-Some.sides (sym c.open_sides.ensures ∙ c.in-Some.is) in
     let one = ap {B = ℕ} (λ (b : Bool). if b then 0 else 1) undecided in
     omega (arith, one, c.dock.ensures.evaluations, c.wins.ensures.evaluations)
 
 pub returns-clause-entries : goal.returns-clause-entries
 returns-clause-entries g c =
     let w = world_of c.args.world.now in
-    let decided = decided-here w c.args.request.now (ad_frames c.args.ad.now) c.request_place.result c.request_place.ensures c.requires.request c.requires.ports c.requires.last in
-    let undecided : is_last_decided w ≡ false = sym decided ∙ some-undecided (ad_frames c.args.request.now.ad) c.request_place.result.frame (labels_of c.args.request.now.ports) (ad_frames c.args.ad.now) c.in-Some.sides (sym c.open_sides.ensures ∙ c.in-Some.is) in
-    let entered = entered-open c.args.moment (stock_of c.args.store.now) (settings_of c.args.priorities.now) (jobs_of c.args.self.now) c.args.slot w undecided in
+    let decided =
+    decided-here w c.args.request.now (ad_frames c.args.ad.now) c.request_place.result c.request_place.ensures c.requires.request c.requires.ports
+    c.requires.last in
+    let undecided : is_last_decided w ≡ false =
+    sym decided ∙ some-undecided (ad_frames c.args.request.now.ad) c.request_place.result.frame (labels_of c.args.request.now.ports) (ad_frames
+    c.args.ad.now) c.in-Some.sides (sym c.open_sides.ensures ∙ c.in-Some.is) in
+    let entered =
+    entered-open c.args.moment (stock_of c.args.store.now) (settings_of c.args.priorities.now) (jobs_of c.args.self.now) c.args.slot w undecided in
     omega (arith, entered, c.dock.ensures.entries, c.wins.ensures.entries)
 
 pub returns-clause-ratio : goal.returns-clause-ratio

@@ -1,38 +1,62 @@
-use Rattle.std.proofs.Common.{◌≡◌, ◌-◌, Some, arith, slice_get, subst, sym}
+use Rattle.std.proofs.Common.{◌-◌, ◌<◌, length, ap, arith, subst, sym, ◌∙◌}
+use Rattle.std.specs.List.{remove}
 use Rattle.std.proofs.lemmas.Option.{slice_get_within}
+use Rattle.claim_table.specs.declared.job.Job.{Job}
 use Rattle.claim_table.specs.declared.job.Stage.{Stage}
-use Rattle.claim_table.specs.Kept.{IsKept}
+use Rattle.claim_table.specs.JobList.{jobs_in, slots_in}
+use Rattle.claim_table.specs.Jobs.{claim_of, lists, offer_of}
+use Rattle.claim_table.specs.Kept.{AreThere, IsKept, numbers}
 use Rattle.claim_table.proofs.ChangeLemmas.{gone_kept}
-use Rattle.claim_table.proofs.ListLemmas.{read_at, sum_by-remove_at, value_at, within_at}
+use Rattle.claim_table.proofs.ListedLemmas.{length-jobs}
+use Rattle.claim_table.proofs.ListLemmas.{sum_by-remove_at, value_at, within_at}
+use Rattle.claim_table.proofs.NoteLemmas.{passes_from}
+use Rattle.claim_table.proofs.NumberLemmas.{length-numbers, numbers-gone, stands-gone}
 use Rattle.claim_table.proofs.table.ClaimTable.take_out.Goals as goal
 
 pub remove-job-requires : goal.remove-job-requires
-remove-job-requires c =
-    let within = within_at (λ j. j.standing) c.args.self.now.jobs.items c.args.i Stage.Idle c.requires in
-    omega (arith, within, c.args.self.now.jobs.ok.0)
-
-pub invariant_of-self : goal.invariant_of-self
-invariant_of-self c =
-    let t = c.args.self.now in
-    let job = c.remove-job.result in
-    let at : slice_get t.jobs.items c.args.i ≡ Some job = read_at (λ j. j.standing) t.jobs.items c.args.i Stage.Idle job c.requires c.remove-job.ensures.value in
-    record {
-      kept = subst (λ l. IsKept c.shift_remove_index.new.self.keys l c.close_gap.new.notes.items c.close_gap-2.new.notes.items (t.text - job.text_len)) (sym c.remove-job.ensures.items)
-          (gone_kept t.names.keys t.jobs.items t.offers.items t.claims.items t.text t.kept c.args.i job at c.shift_remove_index.new.self.keys c.close_gap.new.notes.items c.close_gap-2.new.notes.items
-          (value_at (λ j. j.standing) t.jobs.items c.args.i Stage.Idle job at c.requires)
-          (slice_get_within t.jobs.items c.args.i job at)
-          c.shift_remove_index.ensures.keys
-          (omega (arith, c.close_gap.ensures.len, c.close_gap.new.notes.ok.0, t.offers.ok.0))
-          (omega (arith, c.close_gap-2.ensures.len, c.close_gap-2.new.notes.ok.0, t.claims.ok.0))
-          c.close_gap.ensures.notes c.close_gap-2.ensures.notes);
-    }
+remove-job-requires c = within_at (λ j. j.standing) (jobs_in c.args.self.now.jobs) c.args.i Stage.Idle c.requires
 
 pub overflow_sub-self : goal.overflow_sub-self
 overflow_sub-self c =
     let t = c.args.self.now in
-    let job = c.remove-job.result in
-    let at : slice_get t.jobs.items c.args.i ≡ Some job = read_at (λ j. j.standing) t.jobs.items c.args.i Stage.Idle job c.requires c.remove-job.ensures.value in
-    omega (arith, sum_by-remove_at (λ j. j.text_len) t.jobs.items c.args.i job at, t.kept.counted)
+    let job : Job = c.remove-job.result in
+    omega (arith, sum_by-remove_at (λ j. j.text_len) (jobs_in t.jobs) c.args.i job c.remove-job.ensures.was, t.kept.counted)
+
+pub invariant_of-self : goal.invariant_of-self
+invariant_of-self c =
+    let t = c.args.self.now in
+    let slots = slots_in t.jobs in
+    let jobs = jobs_in t.jobs in
+    let i = c.args.i in
+    let job : Job = c.remove-job.result in
+    let at = c.remove-job.ensures.was in
+    let idle = value_at (λ j. j.standing) jobs i Stage.Idle job at c.requires in
+    let within : i < length slots = omega (arith, slice_get_within jobs i job at, length-jobs t.jobs.table slots t.jobs.listed.filled) in
+    let fewer = remove slots i in
+    record {
+      kept = subst (λ l. IsKept (jobs_in c.remove-job.new.self) (numbers l t.offers.items) (numbers l t.claims.items) (t.text - job.text_len))
+          (sym c.remove-job.ensures.slots)
+          (subst (λ js. IsKept js (numbers fewer t.offers.items) (numbers fewer t.claims.items) (t.text - job.text_len)) (sym c.remove-job.ensures.jobs)
+          (gone_kept jobs (numbers slots t.offers.items) (numbers slots t.claims.items) t.text t.kept i job at (numbers fewer t.offers.items)
+          (numbers fewer t.claims.items) idle (slice_get_within jobs i job at)
+          (length-numbers fewer t.offers.items ∙ sym (length-numbers slots t.offers.items))
+          (length-numbers fewer t.claims.items ∙ sym (length-numbers slots t.claims.items))
+          (λ slot. numbers-gone slots i t.offers.items slot within
+          (t.kept.offered slot i ∙ passes_from (λ j. lists (offer_of j.standing) slot) jobs i job at ∙ ap (λ s. lists (offer_of s) slot) idle))
+          (λ slot. numbers-gone slots i t.claims.items slot within
+          (t.kept.claimed slot i ∙ passes_from (λ j. lists (claim_of j.standing) slot) jobs i job at ∙ ap (λ s. lists (claim_of s) slot) idle))));
+      there = subst (λ l. AreThere l t.offers.items t.claims.items) (sym c.remove-job.ensures.slots)
+          (record {
+            offered =
+                λ slot. stands-gone slots i t.offers.items slot within
+                (t.kept.offered slot i ∙ passes_from (λ j. lists (offer_of j.standing) slot) jobs i job at ∙ ap (λ s. lists (offer_of s) slot) idle)
+                (t.there.offered slot);
+            claimed =
+                λ slot. stands-gone slots i t.claims.items slot within
+                (t.kept.claimed slot i ∙ passes_from (λ j. lists (claim_of j.standing) slot) jobs i job at ∙ ap (λ s. lists (claim_of s) slot) idle)
+                (t.there.claimed slot);
+          });
+    }
 
 pub returns : goal.returns
-returns c = c.remove-job.ensures.items
+returns c = c.remove-job.ensures.jobs

@@ -1,5 +1,4 @@
-use Rattle.std.proofs.Common.{◌≡◌, ◌<◌, ◌++◌, IfSome, OnOk, Some, length, refl, slice_get, subst, sym}
-use Rattle.std.proofs.lemmas.Option.{slice_get_read}
+use Rattle.std.proofs.Common.{◌≡◌, ◌++◌, OnOk, Some, slice_get, subst, sym}
 use Rattle.std.proofs.lemmas.Result.{on_ok_weaker}
 use Rattle.claim_table.specs.Answers.{freed_at}
 use Rattle.claim_table.specs.Table.{jobs_of}
@@ -10,8 +9,7 @@ pub returns : goal.returns
 returns c =
     let jobs = jobs_of c.args.self.now in
     let i = c.in-Some.i in
-    let job = c.index.result.now in
-    let within : i < length jobs = subst (λ o. IfSome o (λ k. k < length jobs)) c.in-Some.is c.requires in
-    let at : slice_get jobs i ≡ Some job = slice_get_read jobs (length jobs) i job refl within c.index.ensures in
+    let job = c.at.result.now in
+    let at : slice_get jobs i ≡ Some job = c.at.ensures in
     subst (λ o. OnOk c.push.result (c.push.new.self ≡ c.args.freed.now ++ freed_at o jobs)) (sym c.in-Some.is)
     (on_ok_weaker c.push.result (told-one jobs i job at c.in_ok-freed_of.field-0 c.args.freed.now c.push.new.self c.in_ok-freed_of.ensures) c.push.ensures.ok)

@@ -20,7 +20,8 @@ use Rattle.claim_table.proofs.table.ClaimTable.wins.Goals as goal
 
 pub returns-then-is_none-clause-won : goal.returns-then-is_none-clause-won
 returns-then-is_none-clause-won g c =
-    unclaimed-won c.args.moment (stock_of c.args.store.now) (settings_of c.args.priorities.now) (jobs_of c.args.self.now) c.args.number c.args.slot (world_of c.args.world.now) c.holder-holder.result (c.is_none.ensures ∙ ap not c.if-is_none.true) c.holder-holder.ensures.who
+    unclaimed-won c.args.moment (stock_of c.args.store.now) (settings_of c.args.priorities.now) (jobs_of c.args.self.now) c.args.number c.args.slot
+    (world_of c.args.world.now) c.holder-holder.result (c.is_none.ensures ∙ ap not c.if-is_none.true) c.holder-holder.ensures.who
 
 pub returns-then-is_none-clause-evaluations : goal.returns-then-is_none-clause-evaluations
 returns-then-is_none-clause-evaluations g c = omega arith
@@ -46,7 +47,8 @@ won_from-requires-clause-stored g c =
 
 pub won_from-requires-clause-stands : goal.won_from-requires-clause-stands
 won_from-requires-clause-stands g c =
-    holder-stands (stock_of c.args.store.now) (holder_of (settings_of c.args.priorities.now) (jobs_of c.args.self.now)) c.args.slot c.holder-holder.result c.holder-holder.ensures.stands
+    holder-stands (stock_of c.args.store.now) (holder_of (settings_of c.args.priorities.now) (jobs_of c.args.self.now)) c.args.slot c.holder-holder.result
+    c.holder-holder.ensures.stands
 
 pub returns-in_err-regard-clause-ratio : goal.returns-in_err-regard-clause-ratio
 returns-in_err-regard-clause-ratio g c world ads jobs = omega (arith, c.rank.ensures.ratio world)
@@ -58,12 +60,16 @@ pub returns-clause-entries : goal.returns-clause-entries
 returns-clause-entries g c =
     let moment = c.args.moment in
     let stock = stock_of c.args.store.now in
-    let held = ap {B = ℕ} (λ (holders : Option Holding). option_map_or (λ holding. attribute_count (holder_world moment stock holding)) holders 0) c.holder-holder.ensures.who in
+    let held =
+    ap {B = ℕ} (λ (holders : Option Holding). option_map_or (λ holding. attribute_count (holder_world moment stock holding)) holders 0)
+    c.holder-holder.ensures.who in
     omega (arith, held, c.rank.ensures.entries, c.won_from.ensures.entries)
 
 pub returns-clause-ratio : goal.returns-clause-ratio
 returns-clause-ratio g c world ads jobs =
-    let small = holder-small (holder_of (settings_of c.args.priorities.now) (jobs_of c.args.self.now)) c.args.slot c.holder-holder.result c.holder-holder.ensures.who (holders-small (settings_of c.args.priorities.now) (jobs_of c.args.self.now) jobs) in
+    let small =
+    holder-small (holder_of (settings_of c.args.priorities.now) (jobs_of c.args.self.now)) c.args.slot c.holder-holder.result c.holder-holder.ensures.who
+    (holders-small (settings_of c.args.priorities.now) (jobs_of c.args.self.now) jobs) in
     omega (arith, c.rank.ensures.ratio world, c.won_from.ensures.ratio small ads)
 
 pub returns-clause-won : goal.returns-clause-won
@@ -72,7 +78,8 @@ returns-clause-won g c =
     let w = world_of c.args.world.now in
     let given = to_z-of_z w128 c.in_ok-regard.regard fits ∙ c.in_ok-regard.ensures.value ∙ ap (rank_by w) c.resource_place.ensures in
     c.is_some.ensures
-    ∙ won-is c.args.moment (stock_of c.args.store.now) (settings_of c.args.priorities.now) (jobs_of c.args.self.now) c.args.number c.args.slot w c.holder-holder.result (to_z w128 (of_z w128 c.in_ok-regard.regard)) c.in_ok-won.won c.holder-holder.ensures.who given c.in_ok-won.ensures.won
+    ∙ won-is c.args.moment (stock_of c.args.store.now) (settings_of c.args.priorities.now) (jobs_of c.args.self.now) c.args.number c.args.slot w
+    c.holder-holder.result (to_z w128 (of_z w128 c.in_ok-regard.regard)) c.in_ok-won.won c.holder-holder.ensures.who given c.in_ok-won.ensures.won
 
 pub returns-in_err-won-clause-evaluations : goal.returns-in_err-won-clause-evaluations
 returns-in_err-won-clause-evaluations g c = omega (arith, c.rank.ensures.evaluations, c.won_from.ensures.evaluations)
@@ -81,10 +88,14 @@ pub returns-in_err-won-clause-entries : goal.returns-in_err-won-clause-entries
 returns-in_err-won-clause-entries g c =
     let moment = c.args.moment in
     let stock = stock_of c.args.store.now in
-    let held = ap {B = ℕ} (λ (holders : Option Holding). option_map_or (λ holding. attribute_count (holder_world moment stock holding)) holders 0) c.holder-holder.ensures.who in
+    let held =
+    ap {B = ℕ} (λ (holders : Option Holding). option_map_or (λ holding. attribute_count (holder_world moment stock holding)) holders 0)
+    c.holder-holder.ensures.who in
     omega (arith, held, c.rank.ensures.entries, c.won_from.ensures.entries)
 
 pub returns-in_err-won-clause-ratio : goal.returns-in_err-won-clause-ratio
 returns-in_err-won-clause-ratio g c world ads jobs =
-    let small = holder-small (holder_of (settings_of c.args.priorities.now) (jobs_of c.args.self.now)) c.args.slot c.holder-holder.result c.holder-holder.ensures.who (holders-small (settings_of c.args.priorities.now) (jobs_of c.args.self.now) jobs) in
+    let small =
+    holder-small (holder_of (settings_of c.args.priorities.now) (jobs_of c.args.self.now)) c.args.slot c.holder-holder.result c.holder-holder.ensures.who
+    (holders-small (settings_of c.args.priorities.now) (jobs_of c.args.self.now) jobs) in
     omega (arith, c.rank.ensures.ratio world, c.won_from.ensures.ratio small ads)

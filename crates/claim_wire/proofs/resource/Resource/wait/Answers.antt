@@ -10,7 +10,9 @@ invariant_of-self c =
     let h = c.args.claim in
     let ws = c.self.inside.waiting.items in
     let n = length c.self.inside.freed.items in
-    let first = position-first (λ w. eqb h.customer w.customer) ws c.in-Some.i (c.in-Some.ensures ∙ ap (position (λ (w : Holder). eqb h.customer w.customer)) c.deref.ensures.value) in
+    let first =
+    position-first (λ w. eqb h.customer w.customer) ws c.in-Some.i
+    (c.in-Some.ensures ∙ ap (position (λ (w : Holder). eqb h.customer w.customer)) c.deref.ensures.value) in
     let same = put-at h ws c.in-Some.i c.index_mut-waiting.result.now c.max-waiting.result first c.index_mut-waiting.ensures.value c.max-waiting.ensures in
     let low : h.customer ≤ n = omega (arith, c.requires, ap (λ (v : ResourceState). length v.freed) c.self.view_is) in
     (subst (λ l. are_waiting n l ≡ true) (sym same) (put-waiting n h ws low c.self.invariant.0), c.self.invariant.1)
@@ -20,7 +22,9 @@ push_reserved-requires c =
     let h = c.args.claim in
     let ws = c.self.inside.waiting.items in
     let n = length c.self.inside.freed.items in
-    let none = position-none (λ w. eqb h.customer w.customer) ws (c.in-None.ensures ∙ ap (position (λ (w : Holder). eqb h.customer w.customer)) c.deref.ensures.value) in
+    let none =
+    position-none (λ w. eqb h.customer w.customer) ws (c.in-None.ensures
+    ∙ ap (position (λ (w : Holder). eqb h.customer w.customer)) c.deref.ensures.value) in
     let low : h.customer ≤ n = omega (arith, c.requires, ap (λ (v : ResourceState). length v.freed) c.self.view_is) in
     omega (arith, room n h ws low none c.self.invariant.0, c.self.invariant.1)
 
@@ -29,15 +33,21 @@ invariant_of-self-in-None c =
     let h = c.args.claim in
     let ws = c.self.inside.waiting.items in
     let n = length c.self.inside.freed.items in
-    let none = position-none (λ w. eqb h.customer w.customer) ws (c.in-None.ensures ∙ ap (position (λ (w : Holder). eqb h.customer w.customer)) c.deref.ensures.value) in
-    let low : h.customer ≤ n = omega (arith, c.requires, ap (λ (v : ResourceState). length v.freed) c.self.view_is) in
-    (subst (λ l. are_waiting n l ≡ true) (put-none h ws none ∙ sym c.push_reserved.ensures.items) (put-waiting n h ws low c.self.invariant.0), omega (arith, c.push_reserved.ensures.capacity, c.self.invariant.1))
+    let none =
+    position-none (λ w. eqb h.customer w.customer) ws (c.in-None.ensures
+    ∙ ap (position (λ (w : Holder). eqb h.customer w.customer)) c.deref.ensures.value) in
+    let low : h.customer ≤ n = omega (arith, c.requires, ap (λ (v : ResourceState). length v.freed) c.self.view_is) in (
+      subst (λ l. are_waiting n l ≡ true) (put-none h ws none ∙ sym c.push_reserved.ensures.items) (put-waiting n h ws low c.self.invariant.0),
+      omega (arith, c.push_reserved.ensures.capacity, c.self.invariant.1),
+    )
 
 pub returns-in-Some : goal.returns-in-Some
 returns-in-Some c =
     let h = c.args.claim in
     let ws = c.self.inside.waiting.items in
-    let first = position-first (λ w. eqb h.customer w.customer) ws c.in-Some.i (c.in-Some.ensures ∙ ap (position (λ (w : Holder). eqb h.customer w.customer)) c.deref.ensures.value) in
+    let first =
+    position-first (λ w. eqb h.customer w.customer) ws c.in-Some.i
+    (c.in-Some.ensures ∙ ap (position (λ (w : Holder). eqb h.customer w.customer)) c.deref.ensures.value) in
     let same = put-at h ws c.in-Some.i c.index_mut-waiting.result.now c.max-waiting.result first c.index_mut-waiting.ensures.value c.max-waiting.ensures in
     ap (λ l. record { id = c.self.inside.id; holder = c.self.inside.holder; freed = c.self.inside.freed.items; waiting = l }) same
     ∙ ap (λ (v : ResourceState). record { id = v.id; holder = v.holder; freed = v.freed; waiting = put_waiting h v.waiting }) c.self.view_is
@@ -46,6 +56,9 @@ pub returns-in-None : goal.returns-in-None
 returns-in-None c =
     let h = c.args.claim in
     let ws = c.self.inside.waiting.items in
-    let none = position-none (λ w. eqb h.customer w.customer) ws (c.in-None.ensures ∙ ap (position (λ (w : Holder). eqb h.customer w.customer)) c.deref.ensures.value) in
-    ap (λ l. record { id = c.self.inside.id; holder = c.self.inside.holder; freed = c.self.inside.freed.items; waiting = l }) (c.push_reserved.ensures.items ∙ sym (put-none h ws none))
+    let none =
+    position-none (λ w. eqb h.customer w.customer) ws (c.in-None.ensures
+    ∙ ap (position (λ (w : Holder). eqb h.customer w.customer)) c.deref.ensures.value) in
+    ap (λ l. record { id = c.self.inside.id; holder = c.self.inside.holder; freed = c.self.inside.freed.items; waiting = l })
+    (c.push_reserved.ensures.items ∙ sym (put-none h ws none))
     ∙ ap (λ (v : ResourceState). record { id = v.id; holder = v.holder; freed = v.freed; waiting = put_waiting h v.waiting }) c.self.view_is

@@ -18,19 +18,25 @@ pub put_customer-requires-clause-kept : goal.put_customer-requires-clause-kept
 put_customer-requires-clause-kept c =
     let w = c.args.self.now in
     let s = c.customer-moved.result in
-    let e = moved-is w c.args.customer (moves.ask c.args.resource) s c.ask-message.new.self c.ask-message.result c.customer-moved.ensures.customer c.ask-message.ensures.new c.ask-message.ensures.sent in
+    let e =
+    moved-is w c.args.customer (moves.ask c.args.resource) s c.ask-message.new.self c.ask-message.result c.customer-moved.ensures.customer
+    c.ask-message.ensures.new c.ask-message.ensures.sent in
     subst Facts (sym e) (happens-facts (events.Ask c.args.customer c.args.resource) w c.customer-moved.ensures.facts)
 
 pub returns-clause-new : goal.returns-clause-new
 returns-clause-new c =
     let w = c.args.self.now in
     let s = c.customer-moved.result in
-    let e = moved-is w c.args.customer (moves.ask c.args.resource) s c.ask-message.new.self c.ask-message.result c.customer-moved.ensures.customer c.ask-message.ensures.new c.ask-message.ensures.sent in
+    let e =
+    moved-is w c.args.customer (moves.ask c.args.resource) s c.ask-message.new.self c.ask-message.result c.customer-moved.ensures.customer
+    c.ask-message.ensures.new c.ask-message.ensures.sent in
     made-as c.put_customer.result c.put_customer.new.self e c.put_customer.ensures.new
 
 pub returns-clause-reply : goal.returns-clause-reply
 returns-clause-reply c =
     let w = c.args.self.now in
     let s = c.customer-moved.result in
-    let e = moved-is w c.args.customer (moves.ask c.args.resource) s c.ask-message.new.self c.ask-message.result c.customer-moved.ensures.customer c.ask-message.ensures.new c.ask-message.ensures.sent in
+    let e =
+    moved-is w c.args.customer (moves.ask c.args.resource) s c.ask-message.new.self c.ask-message.result c.customer-moved.ensures.customer
+    c.ask-message.ensures.new c.ask-message.ensures.sent in
     text-as c.put_customer.result (ap (told w) e) c.put_customer.ensures.reply

@@ -11,19 +11,25 @@ pub put_customer-requires-clause-kept : goal.put_customer-requires-clause-kept
 put_customer-requires-clause-kept c =
     let w = c.args.self.now in
     let s = c.customer-moved.result in
-    let e = moved-is w c.args.customer moves.leave s c.leave-message.new.self c.leave-message.result c.customer-moved.ensures.customer c.leave-message.ensures.new c.leave-message.ensures.sent in
+    let e =
+    moved-is w c.args.customer moves.leave s c.leave-message.new.self c.leave-message.result c.customer-moved.ensures.customer c.leave-message.ensures.new
+    c.leave-message.ensures.sent in
     subst Facts (sym e) (happens-facts (events.Leave c.args.customer) w c.customer-moved.ensures.facts)
 
 pub returns-clause-new : goal.returns-clause-new
 returns-clause-new c =
     let w = c.args.self.now in
     let s = c.customer-moved.result in
-    let e = moved-is w c.args.customer moves.leave s c.leave-message.new.self c.leave-message.result c.customer-moved.ensures.customer c.leave-message.ensures.new c.leave-message.ensures.sent in
+    let e =
+    moved-is w c.args.customer moves.leave s c.leave-message.new.self c.leave-message.result c.customer-moved.ensures.customer c.leave-message.ensures.new
+    c.leave-message.ensures.sent in
     made-as c.put_customer.result c.put_customer.new.self e c.put_customer.ensures.new
 
 pub returns-clause-reply : goal.returns-clause-reply
 returns-clause-reply c =
     let w = c.args.self.now in
     let s = c.customer-moved.result in
-    let e = moved-is w c.args.customer moves.leave s c.leave-message.new.self c.leave-message.result c.customer-moved.ensures.customer c.leave-message.ensures.new c.leave-message.ensures.sent in
+    let e =
+    moved-is w c.args.customer moves.leave s c.leave-message.new.self c.leave-message.result c.customer-moved.ensures.customer c.leave-message.ensures.new
+    c.leave-message.ensures.sent in
     text-as c.put_customer.result (ap (told w) e) c.put_customer.ensures.reply

@@ -11,8 +11,14 @@ pub invariant_of-result : goal.invariant_of-result
 invariant_of-result c =
     let e =
     ap (λ (cs : List CustomerState). record { customers = cs; resources = c.in_ok-holders.holders.items; sent = c.new.result.items }) c.in_ok-askers.ensures
-    ∙ ap (λ (rs : List ResourceState). record { customers = spec.new_customers c.args.customers; resources = rs; sent = c.new.result.items }) c.in_ok-holders.ensures
-    ∙ ap (λ (ms : List Message). record { customers = spec.new_customers c.args.customers; resources = spec.new_resources c.args.customers c.args.resources; sent = ms }) c.new.ensures.items in
+    ∙ ap (λ (rs : List ResourceState). record { customers = spec.new_customers c.args.customers; resources = rs; sent = c.new.result.items })
+    c.in_ok-holders.ensures
+    ∙ ap (λ (ms : List Message). record {
+      customers =
+          spec.new_customers c.args.customers;
+      resources = spec.new_resources c.args.customers c.args.resources;
+      sent = ms;
+    }) c.new.ensures.items in
     subst Facts (sym e) (new-facts c.args.resources c.args.customers)
 
 pub returns-clause-ends : goal.returns-clause-ends

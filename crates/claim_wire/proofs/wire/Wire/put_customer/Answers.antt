@@ -11,7 +11,8 @@ use Rattle.claim_wire.proofs.wire.Wire.put_customer.Goals as goal
 pub invariant_of-self : goal.invariant_of-self
 invariant_of-self c =
     let i = c.self.inside in
-    subst (λ (ms : List Message). Facts (record { customers = i.customers.items; resources = i.resources.items; sent = ms })) (sym c.in_err-text.ensures.unchanged) c.self.invariant
+    subst (λ (ms : List Message). Facts (record { customers = i.customers.items; resources = i.resources.items; sent = ms }))
+    (sym c.in_err-text.ensures.unchanged) c.self.invariant
 
 pub invariant_of-self-2 : goal.invariant_of-self-2
 invariant_of-self-2 c =

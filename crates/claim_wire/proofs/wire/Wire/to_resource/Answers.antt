@@ -53,7 +53,9 @@ invariant_of-self-2 c =
     let less : m.resource - 1 < length v.resources = omega (arith, number.0, number.1, ends) in
     let here = read-at v.resources (m.resource - 1) c.index.result.now less c.index.ensures in
     let there = read-at v.resources (m.resource - 1) c.index_mut.result.now less c.index_mut.ensures.value in
-    let whole = brought v v m c.index.result.now c.index_mut.result.now c.change.new.self c.answers-answers.result c.note.new.sent.items refl number.0 here there c.answers-answers.ensures c.change.ensures c.in_ok-text.ensures.noted in
+    let whole =
+    brought v v m c.index.result.now c.index_mut.result.now c.change.new.self c.answers-answers.result c.note.new.sent.items refl number.0 here there
+    c.answers-answers.ensures c.change.ensures c.in_ok-text.ensures.noted in
     let has = subst (λ (u : WireState). Contains u.sent m) (sym c.self.view_is) c.requires.sent in
     subst Facts (sym whole) (requested-facts v m c.self.invariant has c.requires.request)
 
@@ -68,7 +70,9 @@ returns-clause-new c =
     let less : m.resource - 1 < length v.resources = omega (arith, number.0, number.1, ends) in
     let here = read-at v.resources (m.resource - 1) c.index.result.now less c.index.ensures in
     let there = read-at v.resources (m.resource - 1) c.index_mut.result.now less c.index_mut.ensures.value in
-    let whole = brought v w m c.index.result.now c.index_mut.result.now c.change.new.self c.answers-answers.result c.note.new.sent.items c.self.view_is number.0 here there c.answers-answers.ensures c.change.ensures c.in_ok-text.ensures.noted in
+    let whole =
+    brought v w m c.index.result.now c.index_mut.result.now c.change.new.self c.answers-answers.result c.note.new.sent.items c.self.view_is number.0 here
+    there c.answers-answers.ensures c.change.ensures c.in_ok-text.ensures.noted in
     whole
 
 pub returns-clause-reply : goal.returns-clause-reply
@@ -82,7 +86,9 @@ returns-clause-reply c =
     let less : m.resource - 1 < length v.resources = omega (arith, number.0, number.1, ends) in
     let here = read-at v.resources (m.resource - 1) c.index.result.now less c.index.ensures in
     let there = read-at v.resources (m.resource - 1) c.index_mut.result.now less c.index_mut.ensures.value in
-    let whole = brought v w m c.index.result.now c.index_mut.result.now c.change.new.self c.answers-answers.result c.note.new.sent.items c.self.view_is number.0 here there c.answers-answers.ensures c.change.ensures c.in_ok-text.ensures.noted in
+    let whole =
+    brought v w m c.index.result.now c.index_mut.result.now c.change.new.self c.answers-answers.result c.note.new.sent.items c.self.view_is number.0 here
+    there c.answers-answers.ensures c.change.ensures c.in_ok-text.ensures.noted in
     let sends =
     ap (λ (u : WireState). u.sent) (sym whole) ∙ c.in_ok-text.ensures.noted
     ∙ ap (λ (u : WireState). u.sent ++ answers_of c.answers-answers.result) c.self.view_is in

@@ -21,12 +21,19 @@ returns-in-Some c = λ q.
     let kept : Kept = record { value = c.args.v; height = c.args.height } in
     let m = get same_key g.others (key_of q) in
     let e = get_or es i d in
-    let first = position-Some (λ x. same_pos x.pos pos) es i d (sym (ap (λ (xs : List Entry). position (λ x. same_pos x.pos pos) xs) c.as_slice.ensures) ∙ (sym c.place_of.ensures ∙ c.in-Some.is)) in
-    let read = subst (λ (xs : List Entry). IfSome (slice_get xs i) (λ x. c.keep.new.entries ≡ set xs i (record { pos = x.pos; kept = Some kept }))) c.as_mut_slice.ensures.value c.keep.ensures in
-    let written = subst (λ (o : Option Entry). IfSome o (λ x. c.keep.new.entries ≡ set es i (record { pos = x.pos; kept = Some kept }))) (slice_get-get_or es i d first.0) read in
+    let first =
+    position-Some (λ x. same_pos x.pos pos) es i d (sym (ap (λ (xs : List Entry). position (λ x. same_pos x.pos pos) xs) c.as_slice.ensures)
+    ∙ (sym c.place_of.ensures ∙ c.in-Some.is)) in
+    let read =
+    subst (λ (xs : List Entry). IfSome (slice_get xs i) (λ x. c.keep.new.entries ≡ set xs i (record { pos = x.pos; kept = Some kept })))
+    c.as_mut_slice.ensures.value c.keep.ensures in
+    let written =
+    subst (λ (o : Option Entry). IfSome o (λ x. c.keep.new.entries ≡ set es i (record { pos = x.pos; kept = Some kept }))) (slice_get-get_or es i d first.0)
+    read in
     let long = ap (λ (xs : List Entry). length xs) written ∙ length-set es i (record { pos = e.pos; kept = Some kept }) in
     ap (λ (xs : List Entry). sight_of_entry (option_or (entry_of xs q) m)) (refill-same (length es) es c.keep.new.entries long ∙ written)
-    ∙ ap (λ (o : Option (Option Kept)). sight_of_entry (option_or o m)) (entry_of-kept es i e d pos q (Some kept) first.0 refl (same_pos-equal e.pos pos first.1) first.2)
+    ∙ ap (λ (o : Option (Option Kept)). sight_of_entry (option_or o m))
+    (entry_of-kept es i e d pos q (Some kept) first.0 refl (same_pos-equal e.pos pos first.1) first.2)
     ∙ kept_first (entry_of es q) m pos q kept
 
 pub returns-in-Some-get_mut : goal.returns-in-Some-get_mut
@@ -37,7 +44,9 @@ returns-in-Some-get_mut c = λ q.
     let kept : Kept = record { value = c.args.v; height = c.args.height } in
     let o = entry_of es q in
     let m = get same_key g.others (key_of q) in
-    let none = entry_of-none es pos (sym (ap (λ (xs : List Entry). position (λ x. same_pos x.pos pos) xs) c.as_slice.ensures) ∙ (sym c.place_of.ensures ∙ c.in-None.is)) in
+    let none =
+    entry_of-none es pos (sym (ap (λ (xs : List Entry). position (λ x. same_pos x.pos pos) xs) c.as_slice.ensures)
+    ∙ (sym c.place_of.ensures ∙ c.in-None.is)) in
     let there = ap is_some (sym c.in-Some-get_mut.ensures.value) in
     let h = c.get_mut.follows.holds (Some kept) in
     ap (λ (x : Option (Option Kept)). sight_of_entry (option_or o x)) ((h.3 there).0 (key_of q))
@@ -50,6 +59,9 @@ returns-in_default c = λ q.
     let g = c.args.self.now in
     let pos = c.args.pos in
     let es = g.first.items in
-    let none = entry_of-none es pos (sym (ap (λ (xs : List Entry). position (λ x. same_pos x.pos pos) xs) c.as_slice.ensures) ∙ (sym c.place_of.ensures ∙ c.in-None.is)) in
+    let none =
+    entry_of-none es pos (sym (ap (λ (xs : List Entry). position (λ x. same_pos x.pos pos) xs) c.as_slice.ensures)
+    ∙ (sym c.place_of.ensures ∙ c.in-None.is)) in
     let absent = sym c.in_default.ensures.value in
-    absurd (pending-unseen (entry_of es pos) (get same_key g.others (key_of pos)) none (ap (λ (k : ℕ × ℕ × ℕ). get same_key g.others k) (sym c.key_of.ensures) ∙ absent) c.requires)
+    absurd (pending-unseen (entry_of es pos) (get same_key g.others (key_of pos)) none
+    (ap (λ (k : ℕ × ℕ × ℕ). get same_key g.others k) (sym c.key_of.ensures) ∙ absent) c.requires)

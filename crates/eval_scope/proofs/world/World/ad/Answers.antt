@@ -7,4 +7,5 @@ pub returns : goal.returns
 returns c =
     let w = c.args.self.now in
     let room : w.docked ≤ length w.resources = omega arith in
-    sym (shown-at (λ ad. ad_frames ad.now) (ad_frames w.request.now) w.resources w.docked c.args.ad c.index-resources-place.result c.if-ad-eq0.false c.if-place-self.false room c.index-resources-place.is)
+    sym (shown-at (λ ad. ad_frames ad.now) (ad_frames w.request.now) w.resources w.docked c.args.ad c.index-resources-place.result c.if-ad-eq0.false
+    c.if-place-self.false room c.index-resources-place.is)

@@ -41,14 +41,16 @@ returns-then-holds-clause-rising c =
     (λ list. (rows : List Row) → IsIndex c.args.self.now rows → IsStrictlyIncreasing list)
     (λ list same rows index.
     subst P (sym same)
-    (others-rise test c.args.self.now.entries slots rows index c.push_chosen.ensures.ordered (sym c.holds.ensures ∙ c.if-holds.true) c.others.ensures.ordered failing))
+    (others-rise test c.args.self.now.entries slots rows index c.push_chosen.ensures.ordered (sym c.holds.ensures ∙ c.if-holds.true) c.others.ensures.ordered
+    failing))
     c.others.ensures.slots
 
 pub returns-clause-hits : goal.returns-clause-hits
 returns-clause-hits c =
     let test = c.args.test.now in
     let m = c.args.self.now.entries in
-    let found : c.push_chosen-3.new.slots.items ≡ chosen_slots test Choice.Open (spanned test open_span m) ++ chosen_slots test Choice.True (spanned test (passing_span test) m)
+    let found : c.push_chosen-3.new.slots.items ≡ chosen_slots test Choice.Open (spanned test open_span m) ++ chosen_slots test Choice.True (spanned test
+    (passing_span test) m)
     = c.in_ok-push_chosen-3.ensures.slots
     ∙ ap (λ xs. xs ++ chosen_slots test Choice.True (spanned test c.passing.result m))
     (c.in_ok-push_chosen-2.ensures.slots ∙ ap (λ xs. xs ++ chosen_slots test Choice.Open (spanned test open_span m)) c.new-chosen.ensures.items)
@@ -65,7 +67,8 @@ pub returns-clause-rising : goal.returns-clause-rising
 returns-clause-rising c =
     let test = c.args.test.now in
     let m = c.args.self.now.entries in
-    let found : c.push_chosen-3.new.slots.items ≡ chosen_slots test Choice.Open (spanned test open_span m) ++ chosen_slots test Choice.True (spanned test (passing_span test) m)
+    let found : c.push_chosen-3.new.slots.items ≡ chosen_slots test Choice.Open (spanned test open_span m) ++ chosen_slots test Choice.True (spanned test
+    (passing_span test) m)
     = c.in_ok-push_chosen-3.ensures.slots
     ∙ ap (λ xs. xs ++ chosen_slots test Choice.True (spanned test c.passing.result m))
     (c.in_ok-push_chosen-2.ensures.slots ∙ ap (λ xs. xs ++ chosen_slots test Choice.Open (spanned test open_span m)) c.new-chosen.ensures.items)

@@ -15,7 +15,8 @@ returns-clause-hits c =
     let first = c.args.first.now in
     let second = c.args.second.now in
     let m = c.args.self.now.entries in
-    let found : c.push_chosen_by_both.new.slots.items ≡ chosen_slots first Choice.Open (spanned first open_span m) ++ slots_of_both first second (spanned_by_both first second m)
+    let found : c.push_chosen_by_both.new.slots.items ≡ chosen_slots first Choice.Open (spanned first open_span
+    m) ++ slots_of_both first second (spanned_by_both first second m)
     = c.in_ok-push_chosen_by_both.ensures.slots
     ∙ ap (λ xs. xs ++ slots_of_both first second (spanned_by_both first second m))
     (c.in_ok-push_chosen.ensures.slots ∙ ap (λ xs. xs ++ chosen_slots first Choice.Open (spanned first open_span m)) c.new-chosen.ensures.items) in
@@ -32,7 +33,8 @@ returns-clause-rising c =
     let first = c.args.first.now in
     let second = c.args.second.now in
     let m = c.args.self.now.entries in
-    let found : c.push_chosen_by_both.new.slots.items ≡ chosen_slots first Choice.Open (spanned first open_span m) ++ slots_of_both first second (spanned_by_both first second m)
+    let found : c.push_chosen_by_both.new.slots.items ≡ chosen_slots first Choice.Open (spanned first open_span
+    m) ++ slots_of_both first second (spanned_by_both first second m)
     = c.in_ok-push_chosen_by_both.ensures.slots
     ∙ ap (λ xs. xs ++ slots_of_both first second (spanned_by_both first second m))
     (c.in_ok-push_chosen.ensures.slots ∙ ap (λ xs. xs ++ chosen_slots first Choice.Open (spanned first open_span m)) c.new-chosen.ensures.items) in

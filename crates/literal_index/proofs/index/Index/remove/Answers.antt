@@ -23,8 +23,10 @@ returns c before after kept =
     let fs = ad_frames c.args.ad.now in
     let P : ℕ → Type 0 = λ n. HasTaken n c.args.slot (attributes_at fs 0) old.entries c.take_attributes.new.entries in
     let none = sym c.remove.ensures.value ∙ nobody c.remove.result (sym c.is_some.ensures ∙ c.if-is_some.false) in
-    kept-left c.args.slot fs before after old.entries old.slots old.waiting c.remove.new.self kept c.remove.ensures.updates.0 c.take_attributes.new.entries c.remove-2.new.self
-    (left c.args.slot fs (settled_under old.waiting (before ++ row_of c.args.slot fs ∷ after)) old.entries c.take_attributes.new.entries old.slots c.remove-2.new.self kept.settled
+    kept-left c.args.slot fs before after old.entries old.slots old.waiting c.remove.new.self kept c.remove.ensures.updates.0 c.take_attributes.new.entries
+    c.remove-2.new.self
+    (left c.args.slot fs (settled_under old.waiting (before ++ row_of c.args.slot fs ∷ after)) old.entries c.take_attributes.new.entries old.slots
+    c.remove-2.new.self kept.settled
     (settled-inside c.args.slot fs before after old.entries old.slots old.waiting c.remove.new.self kept c.remove.ensures.updates.0 none)
     (subst P c.count.ensures c.take_attributes.ensures) c.remove-2.ensures.updates.0)
   where

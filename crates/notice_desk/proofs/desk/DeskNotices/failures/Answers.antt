@@ -6,8 +6,10 @@ use Rattle.notice_desk.proofs.desk.DeskNotices.failures.Goals as goal
 
 pub returns-in_default : goal.returns-in_default
 returns-in_default g c =
-    sym (failures-absent c.args.name.now (rows_of (λ b. (goal.Mailbox-dyn g (b.vtable, b.value)).taking b.value) c.args.self.now.entries.items) (absent-rows (λ b. (goal.Mailbox-dyn g (b.vtable, b.value)).taking b.value) c.args.name.now c.args.self.now.entries.items c.in_default.ensures.absent))
+    sym (failures-absent c.args.name.now (rows_of (λ b. (goal.Mailbox-dyn g (b.vtable, b.value)).taking b.value) c.args.self.now.entries.items)
+    (absent-rows (λ b. (goal.Mailbox-dyn g (b.vtable, b.value)).taking b.value) c.args.name.now c.args.self.now.entries.items c.in_default.ensures.absent))
 
 pub returns : goal.returns
 returns g c =
-    sym (failures-entry (λ b. (goal.Mailbox-dyn g (b.vtable, b.value)).taking b.value) c.args.name.now c.args.self.now.entries.items c.in-Some.i c.index.result.now c.index.result.now c.in-Some.ensures.found c.index.ensures c.args.self.now.distinct)
+    sym (failures-entry (λ b. (goal.Mailbox-dyn g (b.vtable, b.value)).taking b.value) c.args.name.now c.args.self.now.entries.items c.in-Some.i
+    c.index.result.now c.index.result.now c.in-Some.ensures.found c.index.ensures c.args.self.now.distinct)

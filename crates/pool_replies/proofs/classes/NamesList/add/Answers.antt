@@ -9,7 +9,8 @@ returns-then-i-len c =
     let lists = c.self.inside.lists.items in
     let within : c.args.i < length lists = omega (arith, c.if-i-len.true) in
     on_ok_weaker c.push.result
-    (λ grown. member-within lists c.args.i c.args.name c.index_mut.result.now c.push.new.self within c.index_mut.ensures.value grown ∙ ap (with_member c.args.i c.args.name) c.self.view_is) c.push.ensures.ok
+    (λ grown. member-within lists c.args.i c.args.name c.index_mut.result.now c.push.new.self within c.index_mut.ensures.value grown
+    ∙ ap (with_member c.args.i c.args.name) c.self.view_is) c.push.ensures.ok
 
 pub returns-else-i-len : goal.returns-else-i-len
 returns-else-i-len c =

@@ -7,7 +7,8 @@ use Rattle.pool_script.proofs.StandingLemmas.{Promises, fed_waiting, stands_fed}
 use Rattle.pool_script.proofs.lines.Lines.feed.Goals as goal
 
 pub invariant_of-self-in-Some : goal.invariant_of-self-in-Some
-invariant_of-self-in-Some c = rw c.in_ok-extend_line.ensures.ok (begun_with c.self.inside.line.items c.in-Some.line.now c.self.invariant c.in-Some.ensures.one_line)
+invariant_of-self-in-Some c =
+    rw c.in_ok-extend_line.ensures.ok (begun_with c.self.inside.line.items c.in-Some.line.now c.self.invariant c.in-Some.ensures.one_line)
 
 pub returns-in_err-end_line-clause-bounded : goal.returns-in_err-end_line-clause-bounded
 returns-in_err-end_line-clause-bounded c =
@@ -19,7 +20,9 @@ loop-line-preserved c = record {
   over = c.in_ok-end_line.ensures.over ∙ ap (λ (h : Held Line). h.over) c.self.view_is ∙ c.loop-line.invariant.over;
   leaves =
       let waits = c.in_ok-end_line.ensures.waiting ∙ ap (λ (l : List ℕ). c.self.inside.waiting.items ++ given_line l ∷ []) c.in_ok-extend_line.ensures.ok in
-      Leaves-line c.args.self.now (record { waiting = c.self.inside.waiting.items; rest = c.self.inside.line.items; over = c.self.inside.over }) c.end_line.new.self c.args.piece.now c.loop-line.left.now c.in-Some.line.now _ c.in-Some.behind.now c.self.invariant c.in-Some.ensures waits c.in_ok-end_line.ensures.rest
+      Leaves-line c.args.self.now (record { waiting = c.self.inside.waiting.items; rest = c.self.inside.line.items; over = c.self.inside.over })
+      c.end_line.new.self c.args.piece.now c.loop-line.left.now c.in-Some.line.now _ c.in-Some.behind.now c.self.invariant c.in-Some.ensures waits
+      c.in_ok-end_line.ensures.rest
       (subst (λ (h : Held Line). Leaves c.args.self.now c.args.piece.now h c.loop-line.left.now) (sym c.self.view_is) c.loop-line.invariant.leaves);
 }
 
@@ -32,7 +35,8 @@ fed c = record { waiting = c.self-2.inside.waiting.items; rest = c.extend_line-2
 
 promises : (c : goal.In_ok-extend_line-2) → Promises given_lines c.args.self.now c.args.piece.now (fed c)
 promises c =
-    Leaves-end c.args.self.now (record { waiting = c.self-2.inside.waiting.items; rest = c.self-2.inside.line.items; over = c.self-2.inside.over }) (fed c) c.args.piece.now c.loop-line.left.now c.self-2.invariant c.in_default.ensures refl c.in_ok-extend_line-2.ensures.ok
+    Leaves-end c.args.self.now (record { waiting = c.self-2.inside.waiting.items; rest = c.self-2.inside.line.items; over = c.self-2.inside.over }) (fed c)
+    c.args.piece.now c.loop-line.left.now c.self-2.invariant c.in_default.ensures refl c.in_ok-extend_line-2.ensures.ok
     (subst (λ (h : Held Line). Leaves c.args.self.now c.args.piece.now h c.loop-line.left.now) (sym c.self-2.view_is) c.loop-line.invariant.leaves)
 
 pub returns-clause-stands : goal.returns-clause-stands
@@ -42,7 +46,9 @@ returns-clause-stands c = λ bytes n stands.
     stands_fed given_lines c.args.self.now (fed c) c.args.piece.now bytes n c.requires over (promises c) none stands
 
 pub returns-clause-waiting : goal.returns-clause-waiting
-returns-clause-waiting c = fed_waiting given_lines c.args.self.now (fed c) c.args.piece.now (promises c) (none_given c.extend_line-2.new.line.items (invariant_of-self-2 c))
+returns-clause-waiting c =
+    fed_waiting given_lines c.args.self.now (fed c) c.args.piece.now (promises c) (none_given c.extend_line-2.new.line.items (invariant_of-self-2 c))
 
 pub returns-clause-bounded : goal.returns-clause-bounded
-returns-clause-bounded c = rw c.in_ok-extend_line-2.ensures.ok (begun_with c.self-2.inside.line.items c.loop-line.left.now c.self-2.invariant c.in_default.ensures).short
+returns-clause-bounded c =
+    rw c.in_ok-extend_line-2.ensures.ok (begun_with c.self-2.inside.line.items c.loop-line.left.now c.self-2.invariant c.in_default.ensures).short

@@ -15,9 +15,11 @@ is_begun c =
 pub returns-clause-sound : goal.returns-clause-sound
 returns-clause-sound c =
     let h = c.read_line-read.ensures in
-    line_end_sound c.read_line-read.result c.args.self.now _ c.args.self.now.line.items c.requires c.requires.one_line c.requires.short (rw (is_begun c) at h.ok_waiting) (rw (is_begun c) at h.ok_block) h.err_waiting h.err_block c.clear.ensures.items
+    line_end_sound c.read_line-read.result c.args.self.now _ c.args.self.now.line.items c.requires c.requires.one_line c.requires.short
+    (rw (is_begun c) at h.ok_waiting) (rw (is_begun c) at h.ok_block) h.err_waiting h.err_block c.clear.ensures.items
 
 pub returns-clause-ok : goal.returns-clause-ok
 returns-clause-ok c =
     let h = c.read_line-read.ensures in
-    line_end_read c.read_line-read.result c.args.self.now _ c.args.self.now.line.items (10 ∷ []) c.requires.one_line refl (rw (is_begun c) at h.ok_waiting) (rw (is_begun c) at h.ok_block) c.clear.ensures.items
+    line_end_read c.read_line-read.result c.args.self.now _ c.args.self.now.line.items (10 ∷ []) c.requires.one_line refl (rw (is_begun c) at h.ok_waiting)
+    (rw (is_begun c) at h.ok_block) c.clear.ensures.items

@@ -1,4 +1,6 @@
-use Rattle.std.proofs.Common.{◌≡◌, ◌+◌, ◌≤◌, length}
+use Rattle.std.proofs.Common.{◌≡◌, ◌+◌, ◌≤◌, drop, length}
+use Rattle.ad_store.specs.Stock.{expired_slots}
+use Rattle.ad_store.specs.Store.{stock_of}
 use Rattle.pool_state.specs.Books.{queue_of}
 use Rattle.pool_state.specs.Indexed.{ads_of}
 use Rattle.pool_state.specs.Queue.{without_resources}
@@ -7,11 +9,10 @@ use Rattle.pool_state.proofs.books.Books.expire.Given as goal
 
 abbrev pub invariant-loop-slot : goal.invariant-loop-slot
 invariant-loop-slot g l = record {
+  left : expired_slots l.now (stock_of l.self.ads.store) ≡ drop l.slot-index l.slot-items;
   live : live_ads l.now (ads_of l.self.ads) ≡ live_ads l.now (ads_of l.initial.self.ads);
-  jobs : without_resources (has_expired l.now (ads_of l.self.ads)) (queue_of l.self) ≡ without_resources (has_expired l.now (ads_of l.initial.self.ads)) (queue_of l.initial.self);
+  jobs : without_resources (has_expired l.now (ads_of l.self.ads)) (queue_of l.self)
+      ≡ without_resources (has_expired l.now (ads_of l.initial.self.ads)) (queue_of l.initial.self);
   looks : l.touch + length (ads_of l.self.ads) ≤ l.initial.touch + length (ads_of l.initial.self.ads);
   fewer : length (ads_of l.self.ads) ≤ length (ads_of l.initial.self.ads);
 }
-
-abbrev pub decreases-loop-slot : goal.decreases-loop-slot
-decreases-loop-slot g l = length (ads_of l.self.ads)

@@ -22,7 +22,8 @@ if_ok-both (Ok x) P Q more a p = more a x p
 if_ok-both (Err e) P Q more a p = tt
 
 pub cycle-requires-clause-stored : goal.cycle-requires-clause-stored
-cycle-requires-clause-stored g c = holders-stored (stock_of c.args.self.now.ads.store) (settings_of c.args.priorities.now) (jobs_of c.args.self.now.claims) c.args.self.now.listed
+cycle-requires-clause-stored g c =
+    holders-stored (stock_of c.args.self.now.ads.store) (settings_of c.args.priorities.now) (jobs_of c.args.self.now.claims) c.args.self.now.listed
 
 pub cycle-requires-clause-ports : goal.cycle-requires-clause-ports
 cycle-requires-clause-ports g c = all-own (jobs_of c.args.self.now.claims) c.args.self.now.owned
@@ -45,9 +46,11 @@ pub returns-clause-cycle : goal.returns-clause-cycle
 returns-clause-cycle g c =
     let books = c.args.self.now in
     let stock = stock_of books.ads.store in
-    let beside : AreBeside stock.ads stock.slots = record { long = sym c.len-len.ensures.ads ∙ c.len-len.ensures.slots; names = c.names_are_apart.ensures; apart = c.slots_are_apart.ensures } in
+    let beside : AreBeside stock.ads stock.slots =
+    record { long = sym c.len-len.ensures.ads ∙ c.len-len.ensures.slots; names = c.names_are_apart.ensures; apart = c.slots_are_apart.ensures } in
     if_ok-both c.cycle.result _ _
-    (λ table spins is. λ answered are. negotiated stock beside c.args.moment (settings_of c.args.priorities.now) (jobs_of books.claims) books.listed books.owned (jobs_of c.cycle.new.claims) spins answered table is are)
+    (λ table spins is. λ answered are. negotiated stock beside c.args.moment (settings_of c.args.priorities.now) (jobs_of books.claims) books.listed books.owned
+    (jobs_of c.cycle.new.claims) spins answered table is are)
     c.cycle.ensures.table c.cycle.ensures.cycle
 
 pub returns-clause-held : goal.returns-clause-held
@@ -56,20 +59,24 @@ returns-clause-held g c =
     let stock = stock_of books.ads.store in
     let jobs = jobs_of books.claims in
     let spins = cycle_of (market_of c.args.moment stock (settings_of c.args.priorities.now) jobs) in
-    if_ok c.cycle.result (λ answered. answered ≡ map (spin_named jobs) spins) (All (IsSpinHeld stock.slots)) (λ answered is. subst (All (IsSpinHeld stock.slots)) (sym is) (spins-held stock.slots jobs spins c.cycle.ensures.stored)) c.cycle.ensures.cycle
+    if_ok c.cycle.result (λ answered. answered ≡ map (spin_named jobs) spins) (All (IsSpinHeld stock.slots))
+    (λ answered is. subst (All (IsSpinHeld stock.slots)) (sym is) (spins-held stock.slots jobs spins c.cycle.ensures.stored)) c.cycle.ensures.cycle
 
 pub returns-clause-cost : goal.returns-clause-cost
 returns-clause-cost g c =
     let books = c.args.self.now in
     let stock = stock_of books.ads.store in
-    let beside : AreBeside stock.ads stock.slots = record { long = sym c.len-len.ensures.ads ∙ c.len-len.ensures.slots; names = c.names_are_apart.ensures; apart = c.slots_are_apart.ensures } in
+    let beside : AreBeside stock.ads stock.slots =
+    record { long = sym c.len-len.ensures.ads ∙ c.len-len.ensures.slots; names = c.names_are_apart.ensures; apart = c.slots_are_apart.ensures } in
     subst (λ (n : ℕ). c.cycle.new.tops ≤ c.args.tops.now + 5 * n)
-    (sym (undecided-seen stock beside c.args.moment (settings_of c.args.priorities.now) (jobs_of books.claims) books.listed books.owned)) c.cycle.ensures.evaluations
+    (sym (undecided-seen stock beside c.args.moment (settings_of c.args.priorities.now) (jobs_of books.claims) books.listed books.owned))
+    c.cycle.ensures.evaluations
 
 pub returns-clause-looks : goal.returns-clause-looks
 returns-clause-looks g c =
     let books = c.args.self.now in
     let stock = stock_of books.ads.store in
-    let beside : AreBeside stock.ads stock.slots = record { long = sym c.len-len.ensures.ads ∙ c.len-len.ensures.slots; names = c.names_are_apart.ensures; apart = c.slots_are_apart.ensures } in
+    let beside : AreBeside stock.ads stock.slots =
+    record { long = sym c.len-len.ensures.ads ∙ c.len-len.ensures.slots; names = c.names_are_apart.ensures; apart = c.slots_are_apart.ensures } in
     subst (λ (n : ℕ). c.cycle.new.touch ≤ c.args.touch.now + 9 * n)
     (sym (narrowest-seen stock beside c.args.moment (settings_of c.args.priorities.now) (jobs_of books.claims) books.listed books.owned)) c.cycle.ensures.looks

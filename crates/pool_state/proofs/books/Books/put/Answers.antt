@@ -13,7 +13,9 @@ invariant_of-self g c =
     let new : Stock = stock_of c.put.new.self.store in
     let advert : Advert = record { name = c.args.name.now; born = c.args.born; lifetime = c.args.lifetime; size = c.args.text_len; ad = ad_frames c.args.ad } in
     record {
-      listed = stored-put c.in-Ok.put advert old new (stock-length books.ads.store) c.in-Ok.ensures.ads c.in-Ok.ensures.slots c.in-Ok.ensures.added (jobs_of books.claims) books.listed;
+      listed =
+          stored-put c.in-Ok.put advert old new (stock-length books.ads.store) c.in-Ok.ensures.ads c.in-Ok.ensures.slots c.in-Ok.ensures.added
+          (jobs_of books.claims) books.listed;
       owned = books.owned;
       small = books.small;
     }
@@ -24,4 +26,5 @@ returns-in-Ok-clause-jobs g c =
     let old : Stock = stock_of books.ads.store in
     let new : Stock = stock_of c.put.new.self.store in
     let advert : Advert = record { name = c.args.name.now; born = c.args.born; lifetime = c.args.lifetime; size = c.args.text_len; ad = ad_frames c.args.ad } in
-    queue-put c.in-Ok.put advert old new (stock-length books.ads.store) c.in-Ok.ensures.ads c.in-Ok.ensures.slots c.in-Ok.ensures.added (jobs_of books.claims) books.listed
+    queue-put c.in-Ok.put advert old new (stock-length books.ads.store) c.in-Ok.ensures.ads c.in-Ok.ensures.slots c.in-Ok.ensures.added (jobs_of books.claims)
+    books.listed

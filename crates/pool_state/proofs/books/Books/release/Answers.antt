@@ -21,12 +21,18 @@ invariant_of-self c =
     let later = jobs_of c.release.new.self in
     let r = c.release.ensures in
     record {
-      listed = either-way (λ (l : List Job). are_stored slots l ≡ true) c.release.result jobs idle later r.ok r.err (released-stored slots number jobs books.listed) books.listed;
-      owned = either-way (All (RequestIs HasOwnPorts)) c.release.result jobs idle later r.ok r.err (kept-released HasOwnPorts number jobs books.owned) books.owned;
-      small = either-way (All (RequestIs IsSmallRequest)) c.release.result jobs idle later r.ok r.err (kept-released IsSmallRequest number jobs books.small) books.small;
+      listed =
+          either-way (λ (l : List Job). are_stored slots l ≡ true) c.release.result jobs idle later r.ok r.err (released-stored slots number jobs books.listed)
+          books.listed;
+      owned =
+          either-way (All (RequestIs HasOwnPorts)) c.release.result jobs idle later r.ok r.err (kept-released HasOwnPorts number jobs books.owned) books.owned;
+      small =
+          either-way (All (RequestIs IsSmallRequest)) c.release.result jobs idle later r.ok r.err (kept-released IsSmallRequest number jobs books.small)
+          books.small;
     }
 
 pub returns-clause-release : goal.returns-clause-release
 returns-clause-release c = λ moment priorities.
     let books = c.args.self.now in
-    released (stock_of books.ads.store) moment priorities c.args.name.now (jobs_of books.claims) c.names_are_apart.ensures c.release.result (jobs_of c.release.new.self) c.release.ensures.answer c.release.ensures.ok c.release.ensures.err
+    released (stock_of books.ads.store) moment priorities c.args.name.now (jobs_of books.claims) c.names_are_apart.ensures c.release.result
+    (jobs_of c.release.new.self) c.release.ensures.answer c.release.ensures.ok c.release.ensures.err

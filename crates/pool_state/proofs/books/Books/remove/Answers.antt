@@ -18,16 +18,22 @@ invariant_of-self c =
     let slots = (stock_of old.ads.store).slots in
     record {
       listed = ap (are_stored slots) c.remove.ensures.jobs ∙ stored-without slots name (jobs_of old.claims) c.names_are_apart.ensures old.listed;
-      owned = subst (All (RequestIs HasOwnPorts)) (sym c.remove.ensures.jobs) (kept-without HasOwnPorts (numbered name (jobs_of old.claims)) (jobs_of old.claims) old.owned);
-      small = subst (All (RequestIs IsSmallRequest)) (sym c.remove.ensures.jobs) (kept-without IsSmallRequest (numbered name (jobs_of old.claims)) (jobs_of old.claims) old.small);
+      owned =
+          subst (All (RequestIs HasOwnPorts)) (sym c.remove.ensures.jobs)
+          (kept-without HasOwnPorts (numbered name (jobs_of old.claims)) (jobs_of old.claims) old.owned);
+      small =
+          subst (All (RequestIs IsSmallRequest)) (sym c.remove.ensures.jobs)
+          (kept-without IsSmallRequest (numbered name (jobs_of old.claims)) (jobs_of old.claims) old.small);
     }
 
 pub returns-clause-held : goal.returns-clause-held
 returns-clause-held c =
     let old = c.args.self.now in
-    c.is_ok.ensures.value ∙ removed (λ job. Ok (slots_of job.standing)) no_job (λ job. refl) c.args.name.now (stock_of old.ads.store) (jobs_of old.claims) c.remove.result c.remove.ensures.answer
+    c.is_ok.ensures.value ∙ removed (λ job. Ok (slots_of job.standing)) no_job (λ job. refl) c.args.name.now (stock_of old.ads.store) (jobs_of
+    old.claims) c.remove.result c.remove.ensures.answer
 
 pub returns-clause-jobs : goal.returns-clause-jobs
 returns-clause-jobs c =
     let old = c.args.self.now in
-    ap (map (queued (stock_of old.ads.store))) c.remove.ensures.jobs ∙ queue-without (stock_of old.ads.store) c.args.name.now (jobs_of old.claims) c.names_are_apart.ensures
+    ap (map (queued (stock_of old.ads.store))) c.remove.ensures.jobs
+    ∙ queue-without (stock_of old.ads.store) c.args.name.now (jobs_of old.claims) c.names_are_apart.ensures

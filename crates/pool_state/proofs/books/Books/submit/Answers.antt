@@ -14,11 +14,13 @@ invariant_of-self-clause-owned c =
     let books = c.args.self.now in
     let jobs = jobs_of books.claims in
     let job : Job = record { name = c.args.name.now; user = c.args.user.now; text_len = c.args.text_len; request = c.args.request; standing = Stage.Idle } in
-    either-way (All (RequestIs HasOwnPorts)) c.submit.result jobs (jobs ++ job ∷ []) (jobs_of c.submit.new.self) c.submit.ensures.ok c.submit.ensures.err (All-push (RequestIs HasOwnPorts) jobs job books.owned c.requires.own) books.owned
+    either-way (All (RequestIs HasOwnPorts)) c.submit.result jobs (jobs ++ job ∷ []) (jobs_of c.submit.new.self) c.submit.ensures.ok c.submit.ensures.err
+    (All-push (RequestIs HasOwnPorts) jobs job books.owned c.requires.own) books.owned
 
 pub invariant_of-self-clause-small : goal.invariant_of-self-clause-small
 invariant_of-self-clause-small c =
     let books = c.args.self.now in
     let jobs = jobs_of books.claims in
     let job : Job = record { name = c.args.name.now; user = c.args.user.now; text_len = c.args.text_len; request = c.args.request; standing = Stage.Idle } in
-    either-way (All (RequestIs IsSmallRequest)) c.submit.result jobs (jobs ++ job ∷ []) (jobs_of c.submit.new.self) c.submit.ensures.ok c.submit.ensures.err (All-push (RequestIs IsSmallRequest) jobs job books.small c.requires.small) books.small
+    either-way (All (RequestIs IsSmallRequest)) c.submit.result jobs (jobs ++ job ∷ []) (jobs_of c.submit.new.self) c.submit.ensures.ok c.submit.ensures.err
+    (All-push (RequestIs IsSmallRequest) jobs job books.small c.requires.small) books.small

@@ -33,15 +33,20 @@ invariant_of-self-2 g c =
     let new : Stock = stock_of c.withdraw.new.self.store in
     let jobs = jobs_of books.claims in
     let slot = c.in-Some.slot in
-    let beside : AreBeside old.ads old.slots = record { long = stock-length books.ads.store; names = c.names_are_apart.ensures; apart = c.slots_are_apart.ensures } in
+    let beside : AreBeside old.ads old.slots =
+    record { long = stock-length books.ads.store; names = c.names_are_apart.ensures; apart = c.slots_are_apart.ensures } in
     let found = slot_beside-found (is_named name) old.ads old.slots slot (sym c.in-Some.ensures.slot) in
     let called = sym (named name found.advert found.passes) in
     let held = has_at name old.ads found.place found.advert found.at called in
     let ads = withdrawn c.withdraw.result (new.ads ≡ without name old.ads) (has name old.ads) held c.withdraw.ensures.ads c.withdraw.ensures.none in
-    let slots = withdrawn c.withdraw.result (new.slots ≡ slots_without name old.ads old.slots) (has name old.ads) held c.withdraw.ensures.slots c.withdraw.ensures.none in
+    let slots =
+    withdrawn c.withdraw.result (new.slots ≡ slots_without name old.ads old.slots) (has name old.ads) held c.withdraw.ensures.slots
+    c.withdraw.ensures.none in
     let lost = c.in_ok-_freed.ensures.ok ∙ lost-each slot jobs c.resources_are_apart.ensures.offers c.resources_are_apart.ensures.claims in
     record {
-      listed = ap (are_stored new.slots) lost ∙ freed-stored old.slots new.slots slot (stays name old new beside slot found.place found.advert found.at found.slot_at called (sym c.in-Some.ensures.slot) ads slots) jobs books.listed;
+      listed =
+          ap (are_stored new.slots) lost ∙ freed-stored old.slots new.slots slot (stays name old new beside slot found.place found.advert found.at found.slot_at
+          called (sym c.in-Some.ensures.slot) ads slots) jobs books.listed;
       owned = subst (All (RequestIs HasOwnPorts)) (sym lost) (freed-kept HasOwnPorts slot jobs books.owned);
       small = subst (All (RequestIs IsSmallRequest)) (sym lost) (freed-kept IsSmallRequest slot jobs books.small);
     }
@@ -61,6 +66,15 @@ returns-clause-ads g c =
     let held = has_at name old.ads found.place found.advert found.at (sym (named name found.advert found.passes)) in
     withdrawn c.withdraw.result (new.ads ≡ without name old.ads) (has name old.ads) held c.withdraw.ensures.ads c.withdraw.ensures.none
 
+pub returns-clause-slots : goal.returns-clause-slots
+returns-clause-slots g c = λ _.
+    let name = c.args.name.now in
+    let old : Stock = stock_of c.args.self.now.ads.store in
+    let new : Stock = stock_of c.withdraw.new.self.store in
+    let found = slot_beside-found (is_named name) old.ads old.slots c.in-Some.slot (sym c.in-Some.ensures.slot) in
+    let held = has_at name old.ads found.place found.advert found.at (sym (named name found.advert found.passes)) in
+    withdrawn c.withdraw.result (new.slots ≡ slots_without name old.ads old.slots) (has name old.ads) held c.withdraw.ensures.slots c.withdraw.ensures.none
+
 pub returns-clause-jobs : goal.returns-clause-jobs
 returns-clause-jobs g c = λ _.
     let books = c.args.self.now in
@@ -69,11 +83,14 @@ returns-clause-jobs g c = λ _.
     let new : Stock = stock_of c.withdraw.new.self.store in
     let jobs = jobs_of books.claims in
     let slot = c.in-Some.slot in
-    let beside : AreBeside old.ads old.slots = record { long = stock-length books.ads.store; names = c.names_are_apart.ensures; apart = c.slots_are_apart.ensures } in
+    let beside : AreBeside old.ads old.slots =
+    record { long = stock-length books.ads.store; names = c.names_are_apart.ensures; apart = c.slots_are_apart.ensures } in
     let found = slot_beside-found (is_named name) old.ads old.slots slot (sym c.in-Some.ensures.slot) in
     let called = sym (named name found.advert found.passes) in
     let held = has_at name old.ads found.place found.advert found.at called in
     let ads = withdrawn c.withdraw.result (new.ads ≡ without name old.ads) (has name old.ads) held c.withdraw.ensures.ads c.withdraw.ensures.none in
-    let slots = withdrawn c.withdraw.result (new.slots ≡ slots_without name old.ads old.slots) (has name old.ads) held c.withdraw.ensures.slots c.withdraw.ensures.none in
+    let slots =
+    withdrawn c.withdraw.result (new.slots ≡ slots_without name old.ads old.slots) (has name old.ads) held c.withdraw.ensures.slots
+    c.withdraw.ensures.none in
     ap (map (queued new)) (c.in_ok-_freed.ensures.ok ∙ lost-each slot jobs c.resources_are_apart.ensures.offers c.resources_are_apart.ensures.claims)
     ∙ queue-freed name old new beside slot found.place found.advert found.at found.slot_at called (sym c.in-Some.ensures.slot) ads slots jobs books.listed

@@ -12,5 +12,6 @@ invariant_of-self g c =
     let rows = withdrawn_rows c.withdraw.result c.args.name.now (stock_of c.args.self.now.store) (stock_of c.withdraw.new.self) w.ads w.slots w.none w.err in
     record {
       indexed = ∥∥₁_map c.args.self.now.indexed (λ kept. subst (IsKept c.forget.new.index) (sym rows) (c.forget.ensures.others kept));
-      small = small-withdrawn c.withdraw.result c.args.name.now (stock_of c.args.self.now.store) (stock_of c.withdraw.new.self) w.ads w.err c.args.self.now.small;
+      small =
+          small-withdrawn c.withdraw.result c.args.name.now (stock_of c.args.self.now.store) (stock_of c.withdraw.new.self) w.ads w.err c.args.self.now.small;
     }

@@ -12,9 +12,12 @@ pub returns-in-Advertise-clause-step : goal.returns-in-Advertise-clause-step
 unfolding state_of
 returns-in-Advertise-clause-step g c =
     let s : State = state_of c.args.self.now in
-    if_ok c.advertise.result _ _ (λ reply is. ap (step s) c.in-Advertise.is ∙ step-Advertise s c.in-Advertise.name c.in-Advertise.lifetime c.in-Advertise.block ∙ ap (λ (block : List ℕ). advertise s c.in-Advertise.name c.in-Advertise.lifetime (length block) (ad_outcome block)) (sym c.bytes.ensures) ∙ is (settings_of c.args.self.now.priorities)) c.advertise.ensures.step
+    if_ok c.advertise.result _ _ (λ reply is. ap (step s) c.in-Advertise.is ∙ step-Advertise s c.in-Advertise.name c.in-Advertise.lifetime c.in-Advertise.block
+    ∙ ap (λ (block : List ℕ). advertise s c.in-Advertise.name c.in-Advertise.lifetime (length block) (ad_outcome block)) (sym c.bytes.ensures)
+    ∙ is (settings_of c.args.self.now.priorities)) c.advertise.ensures.step
 
 pub returns-in-Withdraw-clause-step : goal.returns-in-Withdraw-clause-step
 unfolding state_of
 returns-in-Withdraw-clause-step g c =
-    if_ok c.withdraw.result _ _ (λ reply is. ap (step (state_of c.args.self.now)) c.in-Withdraw.is ∙ step-Withdraw (state_of c.args.self.now) c.in-Withdraw.name ∙ is c.args.self.now.moment (settings_of c.args.self.now.priorities)) c.withdraw.ensures.step
+    if_ok c.withdraw.result _ _ (λ reply is. ap (step (state_of c.args.self.now)) c.in-Withdraw.is ∙ step-Withdraw (state_of c.args.self.now) c.in-Withdraw.name
+    ∙ is c.args.self.now.moment (settings_of c.args.self.now.priorities)) c.withdraw.ensures.step

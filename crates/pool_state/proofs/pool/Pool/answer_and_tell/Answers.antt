@@ -16,7 +16,8 @@ use Rattle.pool_state.proofs.pool.Pool.answer_and_tell.Goals as goal
 pub returns-clause-step : goal.returns-clause-step
 unfolding state_of
 returns-clause-step g c =
-    if_ok c.tell.result _ _ (λ told same. c.in_ok-reply.ensures.step ∙ ap (λ (r : Reply). let p : State × Reply = (state_of c.answer-2.new.self, r) in p) (sym same)) c.tell.ensures.same
+    if_ok c.tell.result _ _ (λ told same. c.in_ok-reply.ensures.step
+    ∙ ap (λ (r : Reply). let p : State × Reply = (state_of c.answer-2.new.self, r) in p) (sym same)) c.tell.ensures.same
 
 pub returns-clause-printable : goal.returns-clause-printable
 returns-clause-printable g c =
@@ -27,17 +28,21 @@ unfolding state_of
 returns-clause-posted g c =
     on_ok_weaker c.tell.result
     (subst (λ (l : List Notice). AllZip (RowAfter (posts_of_all l)) (g.D.Notices.shows c.args.desk.now) (g.D.Notices.shows c.tell.new.desk))
-    (notices-by (state_of c.args.self.now) (state_of c.answer-2.new.self) c.args.command.now c.in_ok-reply.reply c.in_ok-granted.granted c.in_ok-stale.stale c.in_ok-reply.ensures.step c.in_ok-granted.ensures c.in_ok-stale.ensures))
+    (notices-by (state_of c.args.self.now) (state_of c.answer-2.new.self) c.args.command.now c.in_ok-reply.reply c.in_ok-granted.granted c.in_ok-stale.stale
+    c.in_ok-reply.ensures.step c.in_ok-granted.ensures c.in_ok-stale.ensures))
     c.tell.ensures.posted
 
 pub returns-then-len-eq0-clause-told : goal.returns-then-len-eq0-clause-told
 returns-then-len-eq0-clause-told g c =
-    on_ok-any c.answer.result (posted-empty (posts_of_all (notices (state_of c.args.self.now) c.args.command.now)) (g.D.Notices.shows c.args.desk.now) (g.D.Notices.left c.args.desk.now) (omega (arith, c.len.ensures.len, c.if-len-eq0.true)))
+    on_ok-any c.answer.result (posted-empty (posts_of_all (notices (state_of c.args.self.now) c.args.command.now)) (g.D.Notices.shows c.args.desk.now)
+    (g.D.Notices.left c.args.desk.now) (omega (arith, c.len.ensures.len, c.if-len-eq0.true)))
 
 pub returns-clause-told : goal.returns-clause-told
 unfolding state_of
 returns-clause-told g c =
     on_ok_weaker c.tell.result
-    (subst (λ (l : List Notice). ArePosted (posts_of_all l) (desk_of (g.D.Notices.shows c.args.desk.now) (g.D.Notices.left c.args.desk.now)) (desk_of (g.D.Notices.shows c.tell.new.desk) (g.D.Notices.left c.tell.new.desk)))
-    (notices-by (state_of c.args.self.now) (state_of c.answer-2.new.self) c.args.command.now c.in_ok-reply.reply c.in_ok-granted.granted c.in_ok-stale.stale c.in_ok-reply.ensures.step c.in_ok-granted.ensures c.in_ok-stale.ensures))
+    (subst (λ (l : List Notice). ArePosted (posts_of_all l) (desk_of (g.D.Notices.shows c.args.desk.now) (g.D.Notices.left c.args.desk.now))
+    (desk_of (g.D.Notices.shows c.tell.new.desk) (g.D.Notices.left c.tell.new.desk)))
+    (notices-by (state_of c.args.self.now) (state_of c.answer-2.new.self) c.args.command.now c.in_ok-reply.reply c.in_ok-granted.granted c.in_ok-stale.stale
+    c.in_ok-reply.ensures.step c.in_ok-granted.ensures c.in_ok-stale.ensures))
     c.tell.ensures.told

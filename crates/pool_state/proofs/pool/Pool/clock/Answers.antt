@@ -12,4 +12,5 @@ returns-then-n-self-clause-step g c = clock-back (state_of c.args.self.now) c.ar
 pub returns-clause-step : goal.returns-clause-step
 unfolding state_of
 returns-clause-step g c =
-    clock-moves (state_of c.args.self.now) c.args.n c.in_ok-expired.expired (ads_of c.expire.new.self.ads) (queue_of c.expire.new.self) (omega arith) c.in_ok-expired.ensures.ads c.in_ok-expired.ensures.jobs c.in_ok-expired.ensures.count
+    clock-moves (state_of c.args.self.now) c.args.n c.in_ok-expired.expired (ads_of c.expire.new.self.ads) (queue_of c.expire.new.self) (omega arith)
+    c.in_ok-expired.ensures.ads c.in_ok-expired.ensures.jobs c.in_ok-expired.ensures.count

@@ -1,0 +1,11 @@
+use Rattle.std.proofs.Common.{◌≡◌, ◌++◌, not, drop, filter}
+use Rattle.slab.specs.Slab.{get}
+use Rattle.slot_order.specs.Cells.{listed}
+use Rattle.ad_store.specs.Held.{advert_of}
+use Rattle.ad_store.specs.Stock.{is_live}
+use Rattle.ad_store.proofs.store.expired_in.Given as goal
+
+abbrev pub invariant-loop-k : goal.invariant-loop-k
+invariant-loop-k l =
+    l.slots ++ filter (λ slot. not (is_live l.now (advert_of (get l.table slot)))) (listed (drop l.k l.cells))
+    ≡ filter (λ slot. not (is_live l.now (advert_of (get l.table slot)))) (listed l.cells)

@@ -1,5 +1,0 @@
-use Rattle.job_classes.proofs.ReachLemmas.{list_is_least}
-use Rattle.job_classes.proofs.laws.listed_names_are_the_least_set.Goals as goal
-
-pub returns : goal.returns
-returns g c = list_is_least g.given.0 g.given.1

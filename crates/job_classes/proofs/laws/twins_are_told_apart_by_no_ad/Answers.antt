@@ -1,6 +1,0 @@
-use Rattle.ad_tree.specs.Ad.{ad_frames}
-use Rattle.job_classes.proofs.TwinLemmas.{twins-alike}
-use Rattle.job_classes.proofs.laws.twins_are_told_apart_by_no_ad.Goals as goal
-
-pub returns : goal.returns
-returns c = λ marks ads ad moment marked twins stands. twins-alike ads (ad_frames c.args.one.now) (ad_frames c.args.other.now) ad marks c.args.one.now.is_ad twins marked stands moment

@@ -1,6 +1,0 @@
-use Rattle.ad_tree.specs.Ad.{ad_frames}
-use Rattle.job_classes.proofs.CompareLemmas.{AreNamesSame}
-use Rattle.job_classes.proofs.twins.have_same_names.Given as goal
-
-abbrev pub invariant-loop-k : goal.invariant-loop-k
-invariant-loop-k l = AreNamesSame (ad_frames l.one) (ad_frames l.other) l.k

@@ -1,0 +1,10 @@
+use Rattle.std.proofs.Common.{◌≡◌, ◌≤◌, count_by, take}
+use Rattle.claim_table.specs.Table.{jobs_of}
+use Rattle.negotiator.specs.Markets.{is_free}
+use Rattle.negotiator.proofs.free.free_in.Given as goal
+
+abbrev pub invariant-loop-slot : goal.invariant-loop-slot
+invariant-loop-slot l = record {
+  free : l.free ≡ count_by (is_free (jobs_of l.claims)) (take l.slot-index l.slots);
+  few : l.free ≤ l.slot-index;
+}

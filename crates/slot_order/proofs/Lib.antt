@@ -1,0 +1,4 @@
+pub mod BlockLemmas
+pub mod CellLemmas
+pub mod KeptLemmas
+pub mod NameLemmas

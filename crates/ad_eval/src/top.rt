@@ -7,7 +7,8 @@ ghost use Rattle.ad_tree.specs.Tree.{tree};
 ghost use Rattle.eval_scope.specs.Shown.{world_of};
 ghost use Rattle.eval_scope.specs.World.{attribute_count, expr_of, frames_of_ad};
 ghost use Rattle.ad_eval.specs.Answered.{IsValueOrError};
-ghost use Rattle.ad_eval.specs.Dock.{attribute_of, is_docked, meets_requirement, rank_by, rank_number};
+ghost use Rattle.ad_eval.specs.Dock.{attribute_of, evaluations_of_dock, evaluations_of_rank, evaluations_of_requirement};
+ghost use Rattle.ad_eval.specs.Dock.{is_docked, meets_requirement, rank_by, rank_number};
 ghost use Rattle.ad_eval.specs.Small.{AreSmall};
 ghost use Rattle.ad_eval.specs.Value.{evaluation, evaluation_at, inner_evaluation, value_with};
 
@@ -86,7 +87,7 @@ pub fn inner<F: Ledger, E: Ledger>(
 /// Whether the requirement of the frame `at` is the Boolean true: its attribute `Requirements`, or else `Constraint`, which
 /// aren't looked for in other frames. The reference to it is the first of the 24.
 ///
-/// It counts one in `tops` where there is a requirement.
+/// It counts one in `tops` where there is a requirement, and nothing where there is none.
 pub fn requirement<F: Ledger, E: Ledger>(
     alloc: Global,
     world: &World<'_>,
@@ -96,6 +97,7 @@ pub fn requirement<F: Ledger, E: Ledger>(
 ) -> Result<bool, OutOfMemory>
     ensures value { IfOk result (λ b. b ≡ meets_requirement (world_of world.now) at) }
     ensures evaluations { tops.new ≤ tops.old + 1 }
+    ensures counted { tops.new ≡ tops.old + evaluations_of_requirement (world_of world.now) at }
     ensures entries { entry.new ≤ entry.old + attribute_count (world_of world.now) }
     ensures ratio { AreSmall (world_of world.now) → entry.new + 9216 * tops.old ≤ entry.old + 9216 * tops.new }
 {
@@ -108,7 +110,7 @@ pub fn requirement<F: Ledger, E: Ledger>(
 /// The rank by the frame `at`, in millionths: its attribute `Rank` where that is an Integer or a Decimal, 1 where it is true,
 /// and 0 for all else. The reference to it is the first of the 24.
 ///
-/// It counts one in `tops` where there is a rank.
+/// It counts one in `tops` where there is a rank, and nothing where there is none.
 pub fn rank<F: Ledger, E: Ledger>(
     alloc: Global,
     world: &World<'_>,
@@ -118,6 +120,7 @@ pub fn rank<F: Ledger, E: Ledger>(
 ) -> Result<i128, OutOfMemory>
     ensures value { IfOk result (λ n. n ≡ rank_by (world_of world.now) at) }
     ensures evaluations { tops.new ≤ tops.old + 1 }
+    ensures counted { tops.new ≡ tops.old + evaluations_of_rank (world_of world.now) at }
     ensures entries { entry.new ≤ entry.old + attribute_count (world_of world.now) }
     ensures ratio { AreSmall (world_of world.now) → entry.new + 9216 * tops.old ≤ entry.old + 9216 * tops.new }
 {
@@ -137,6 +140,7 @@ pub fn dock<F: Ledger, E: Ledger>(
 ) -> Result<bool, OutOfMemory>
     ensures value { IfOk result (λ b. b ≡ is_docked (world_of world.now)) }
     ensures evaluations { tops.new ≤ tops.old + 2 }
+    ensures counted { tops.new ≤ tops.old + evaluations_of_dock (world_of world.now) }
     ensures entries { entry.new ≤ entry.old + 2 * attribute_count (world_of world.now) }
     ensures ratio { AreSmall (world_of world.now) → entry.new + 9216 * tops.old ≤ entry.old + 9216 * tops.new }
 {

@@ -1,8 +1,9 @@
 -- The dock of a request and a resource.
-use Rattle.std.specs.Prelude.{ℕ, ℤ, Bool, not, List, [], ◌∷◌, Option, None, Some, if◌then◌else◌}
+use Rattle.std.specs.Prelude.{ℕ, ◌+◌, ℤ, Bool, not, ◌&&◌, List, [], ◌∷◌, Option, None, Some, if◌then◌else◌}
+use Rattle.std.specs.Option.{option_map_or}
 use Rattle.ad_tree.specs.Frames.{Frame}
 use Rattle.eval_scope.specs.World.{PlainWorld, frames_of_ad, request_side, resource_side}
-use Rattle.ad_eval.specs.Dock.{is_docked, rank_by}
+use Rattle.ad_eval.specs.Dock.{is_docked, meets_requirement, rank_by}
 use Rattle.conjunct_plan.specs.Decided.{is_dock_decided}
 use Rattle.conjunct_plan.specs.Tests.{labels_of}
 use Rattle.dock_match.specs.declared.sides.OpenSides.{OpenSides}
@@ -47,3 +48,12 @@ is_last_decided w = is_dock_decided w.request (request_side w).frame (labels_of 
 -- the sides of the last dock that tests leave open
 abbrev pub last_open : PlainWorld → Option OpenSides
 last_open w = open_sides w.request (request_side w).frame (labels_of w.ports) (last_ad w)
+
+-- how many evaluations the last dock takes where tests leave these sides open: the request's requirement, and the resource's only where that is true
+abbrev pub evaluations_of_sides : PlainWorld → OpenSides → ℕ
+evaluations_of_sides w sides =
+    (if sides.request then 1 else 0) + (if sides.resource && meets_requirement w (request_side w) then 1 else 0)
+
+-- how many it takes at most: none where it is decided
+abbrev pub evaluations_of_last : PlainWorld → ℕ
+evaluations_of_last w = option_map_or (evaluations_of_sides w) (last_open w) 0

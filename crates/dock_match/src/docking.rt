@@ -8,7 +8,7 @@ ghost use Rattle.conjunct_plan.specs.Decided.{is_dock_decided};
 ghost use Rattle.conjunct_plan.specs.Tests.{labels_of};
 ghost use Rattle.eval_scope.specs.Shown.{world_of};
 ghost use Rattle.eval_scope.specs.World.{attribute_count};
-ghost use Rattle.dock_match.specs.Docks.{is_last_decided};
+ghost use Rattle.dock_match.specs.Docks.{evaluations_of_last, is_last_decided};
 ghost use Rattle.dock_match.specs.Pool as pool;
 ghost use Rattle.dock_match.specs.Small.{AreSmallAds};
 
@@ -25,8 +25,9 @@ use std::sync::ledger::Ledger;
 /// order: to the ports of a gang from the first on, or one to a single request (Raman, Livny and Solomon 2003). There is
 /// at least one slot, and no more than the request has ports, or one where it has none.
 ///
-/// It counts one in `touch` for each slot at most, and in `tops` and `entry` what evaluations count: two at most, and none
-/// where a test of either side decides the last dock.
+/// It counts one in `touch` for each slot at most, and in `tops` and `entry` what evaluations count: one at most for each side
+/// that tests leave open, the resource's only where the request's is true, and none where a test of either side decides the
+/// last dock.
 pub fn pair<F: Ledger, E: Ledger, T: Ledger>(
     alloc: Global,
     store: &Store,
@@ -43,6 +44,7 @@ pub fn pair<F: Ledger, E: Ledger, T: Ledger>(
     ensures docked { IfOk result (λ b. b ≡ is_docked (pool.slots_world moment (stock_of store.now) request.now slots.now)) }
     ensures evaluations { let w = pool.slots_world moment (stock_of store.now) request.now slots.now in
         tops.new ≤ tops.old + (if is_last_decided w then 0 else 2) }
+    ensures counted { tops.new ≤ tops.old + evaluations_of_last (pool.slots_world moment (stock_of store.now) request.now slots.now) }
     ensures entries { let w = pool.slots_world moment (stock_of store.now) request.now slots.now in
         entry.new ≤ entry.old + (if is_last_decided w then 0 else 2 * attribute_count w) }
     ensures ratio { IsSmall (ad_frames request.now.ad) → AreSmallAds (stock_of store.now).ads → entry.new + 9216 * tops.old ≤ entry.old + 9216 * tops.new }

@@ -1,12 +1,12 @@
 // Docks of which tests say less than whether they are true.
-ghost use Rattle.std.specs.Prelude.{◌≡◌, ◌≤◌, ◌<◌, ◌+◌, ◌*◌, Some, false, length, true, IfOk};
+ghost use Rattle.std.specs.Prelude.{◌≡◌, ◌≤◌, ◌<◌, ◌+◌, ◌*◌, Some, false, length, true, IfOk, if◌then◌else◌};
 ghost use Rattle.ad_tree.specs.Ad.{ad_frames};
 ghost use Rattle.ad_eval.specs.Dock.{is_docked, meets_requirement};
 ghost use Rattle.ad_eval.specs.Small.{AreSmall};
 ghost use Rattle.conjunct_plan.specs.Tests.{labels_of};
 ghost use Rattle.eval_scope.specs.Shown.{world_of};
 ghost use Rattle.eval_scope.specs.World.{attribute_count};
-ghost use Rattle.dock_match.specs.Docks.{last_open};
+ghost use Rattle.dock_match.specs.Docks.{evaluations_of_sides, last_open};
 ghost use Rattle.dock_match.specs.Sides.{is_open, open_sides};
 
 use ad_eval::requirement;
@@ -65,6 +65,7 @@ impl OpenSides {
         requires left { last_open (world_of world.now) ≡ Some self }
         ensures value { IfOk result (λ b. b ≡ is_docked (world_of world.now)) }
         ensures evaluations { tops.new ≤ tops.old + 2 }
+        ensures counted { tops.new ≤ tops.old + evaluations_of_sides (world_of world.now) self }
         ensures entries { entry.new ≤ entry.old + 2 * attribute_count (world_of world.now) }
         ensures ratio { AreSmall (world_of world.now) → entry.new + 9216 * tops.old ≤ entry.old + 9216 * tops.new }
     {
@@ -102,6 +103,7 @@ fn holds<F: Ledger, E: Ledger>(
     requires { undecided ≡ false → meets_requirement (world_of world.now) at ≡ true }
     ensures value { IfOk result (λ b. b ≡ meets_requirement (world_of world.now) at) }
     ensures evaluations { tops.new ≤ tops.old + 1 }
+    ensures counted { tops.new ≤ tops.old + (if undecided then 1 else 0) }
     ensures entries { entry.new ≤ entry.old + attribute_count (world_of world.now) }
     ensures ratio { AreSmall (world_of world.now) → entry.new + 9216 * tops.old ≤ entry.old + 9216 * tops.new }
 {

@@ -11,15 +11,15 @@ use Rattle.ad_tree.specs.Ad.{ad_frames}
 use Rattle.ad_tree.specs.Frames.{Frame}
 use Rattle.ad_tree.specs.declared.request.Port.{Port}
 use Rattle.ad_tree.specs.declared.request.Request.{Request}
-use Rattle.ad_store.specs.Stock.{Advert, Stock}
+use Rattle.ad_store.specs.Stock.{Stock}
 use Rattle.dock_match.specs.Pool.{Pool}
 use Rattle.claim_table.specs.declared.job.Job.{Job}
 use Rattle.claim_table.specs.declared.job.Stage.{Stage}
 use Rattle.claim_table.specs.Jobs.{with_standing}
 use Rattle.claim_table.specs.Priorities.{Setting}
-use Rattle.gang_ports.specs.Gangs.{docks_open, looks_most}
+use Rattle.gang_ports.specs.Gangs.{docks_open}
 use Rattle.negotiator.specs.Budget.{AreLeft, ArePaid, AreWithin, Counts, IsSearched, budget, due, is_due, entries_for, evaluations_by, evaluations_for}
-use Rattle.negotiator.specs.Budget.{is_idle_at, is_marked, left_for, looks_by, looks_for, narrowed_by, open_by, open_for, over_idle, price_at}
+use Rattle.negotiator.specs.Budget.{is_idle_at, is_marked, looks_for, open_by, open_for, over_idle, price_at}
 use Rattle.negotiator.specs.Markets.{is_idle, pool_for}
 use Rattle.negotiator.proofs.JobLemmas.{entries-later, evaluations-later, idle-later, later, length-later, requests-later}
 use Rattle.negotiator.proofs.SumLemmas.{sum-falls}
@@ -303,13 +303,6 @@ evaluations-five pool request (port ∷ ports) = by (docks_open pool request (po
     by : (n : ℕ) → 3 * n ≤ 5 * n
     by n = omega arith
 
-looks-nine : (ads : List Advert) (request : List Frame) (ports : List Port) → looks_by ads request ports ≤ 9 * narrowed_by ads request ports
-looks-nine ads request [] = omega arith
-looks-nine ads request (port ∷ ports) = by (looks_most ads request (port ∷ ports))
-  where
-    by : (n : ℕ) → n ≤ 9 * n
-    by n = omega arith
-
 module _ (moment : ℕ) (stock : Stock) (settings : List Setting) (jobs : List Job) (failed : List Bool) (none : (k : ℕ) → is_marked failed k ≡ false)
     (before after : Counts) (within : AreWithin moment stock settings jobs failed before after) where
   pub evaluations-start : after.tops ≤ before.tops + 5 * over_idle (open_for moment stock settings) jobs
@@ -327,12 +320,5 @@ module _ (moment : ℕ) (stock : Stock) (settings : List Setting) (jobs : List J
   pub entries-start : after.entry ≤ before.entry + over_idle (entries_for moment stock settings) jobs
   entries-start = let rise = within.entry in let start = budget-start (entries_for moment stock settings) jobs failed none in omega (arith, rise, start)
 
-  pub looks-start : after.touch ≤ before.touch + 9 * over_idle (left_for stock) jobs
-  looks-start =
-      let rise = within.touch in
-      let start = budget-start (looks_for stock) jobs failed none in
-      let idle = filter (λ (job : Job). is_idle job.standing) jobs in
-      let most = sum_by-le-sum_by (λ (job : Job). looks_for stock jobs job.request) (λ (job : Job). 9 * left_for stock jobs job.request) idle
-      (λ job. looks-nine stock.ads (ad_frames job.request.ad) job.request.ports) in
-      let nine = sum-times 9 (λ (job : Job). left_for stock jobs job.request) idle in
-      omega (arith, rise, start, most, nine)
+  pub looks-start : after.touch ≤ before.touch + over_idle (looks_for stock) jobs
+  looks-start = let rise = within.touch in let start = budget-start (looks_for stock) jobs failed none in omega (arith, rise, start)

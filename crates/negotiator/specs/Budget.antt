@@ -24,12 +24,7 @@ abbrev pub open_by : Pool → List Frame → List Port → ℕ
 open_by pool request [] = open_count pool request
 open_by pool request (port ∷ ports) = docks_open pool request (port ∷ ports)
 
--- how many ads the narrowest test of a request leaves, and with ports the sum over them
-abbrev pub narrowed_by : List Advert → List Frame → List Port → ℕ
-narrowed_by ads request [] = least_left ads (tests_of request 0 [])
-narrowed_by ads request (port ∷ ports) = looks_most ads request (port ∷ ports)
-
--- how many evaluations a search may take, how many attributes may be entered in them, and how many ads it may look at
+-- how many evaluations a search may take, and how many attributes may be entered in them
 abbrev pub evaluations_by : Pool → List Frame → List Port → ℕ
 evaluations_by pool request [] = 5 * open_count pool request
 evaluations_by pool request (port ∷ ports) = 3 * docks_open pool request (port ∷ ports)
@@ -38,6 +33,8 @@ abbrev pub entries_by : Pool → List Frame → List Port → ℕ
 entries_by pool request [] = entered_for pool request
 entries_by pool request (port ∷ ports) = attributes_open pool request (port ∷ ports)
 
+-- how many ads it may look at: nine times those that the narrowest test of a single request leaves, and once for each port of a gang
+-- those that the narrowest test of the port leaves
 abbrev pub looks_by : List Advert → List Frame → List Port → ℕ
 looks_by ads request [] = 9 * least_left ads (tests_of request 0 [])
 looks_by ads request (port ∷ ports) = looks_most ads request (port ∷ ports)
@@ -45,9 +42,6 @@ looks_by ads request (port ∷ ports) = looks_most ads request (port ∷ ports)
 -- the same for a job among others
 abbrev pub open_for : ℕ → Stock → List Setting → List Job → Request → ℕ
 open_for moment stock settings jobs request = open_by (pool_for moment stock settings jobs) (ad_frames request.ad) request.ports
-
-abbrev pub left_for : Stock → List Job → Request → ℕ
-left_for stock jobs request = narrowed_by stock.ads (ad_frames request.ad) request.ports
 
 abbrev pub evaluations_for : ℕ → Stock → List Setting → List Job → Request → ℕ
 evaluations_for moment stock settings jobs request = evaluations_by (pool_for moment stock settings jobs) (ad_frames request.ad) request.ports

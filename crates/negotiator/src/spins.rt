@@ -9,7 +9,7 @@ ghost use Rattle.claim_table.specs.Holders.{holder_of};
 ghost use Rattle.claim_table.specs.Small.{AreSmallJobs};
 ghost use Rattle.claim_table.specs.Table.{jobs_of};
 ghost use Rattle.literal_index.specs.Shown.{IsIndex};
-ghost use Rattle.negotiator.specs.Budget.{ArePaid, AreWithin, counts, entries_for, left_for, open_for, over_idle};
+ghost use Rattle.negotiator.specs.Budget.{ArePaid, AreWithin, counts, entries_for, looks_for, open_for, over_idle};
 ghost use Rattle.negotiator.specs.Clusters.{AreClusters};
 ghost use Rattle.negotiator.specs.Cycle.{Market, cycle_of, offers_in, offers_of, spin, users_of};
 ghost use Rattle.negotiator.specs.Markets.{AreOwn, IsPart, market_of, spin_named, with_offers};
@@ -70,7 +70,7 @@ pub fn cycle<F: Ledger, E: Ledger, T: Ledger>(
     ensures evaluations { tops.new ≤ tops.old + 5 * over_idle (open_for moment (stock_of store.now) (settings_of priorities.now)) (jobs_of claims.old) }
     ensures entries { entry.new ≤ entry.old + over_idle (entries_for moment (stock_of store.now) (settings_of priorities.now)) (jobs_of claims.old) }
     ensures ratio { AreSmallAds (stock_of store.now).ads → AreSmallJobs (jobs_of claims.old) → entry.new + 9216 * tops.old ≤ entry.old + 9216 * tops.new }
-    ensures looks { touch.new ≤ touch.old + 9 * over_idle (left_for (stock_of store.now)) (jobs_of claims.old) }
+    ensures looks { touch.new ≤ touch.old + over_idle (looks_for (stock_of store.now)) (jobs_of claims.old) }
 {
     let scene = Scene {
         alloc,

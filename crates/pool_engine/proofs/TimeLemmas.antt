@@ -41,19 +41,25 @@ use Rattle.run_rules.specs.PoolRules.{RepliesFirst, pool_rules}
 use Rattle.run_rules.proofs.PoolLemmas.{pool_lawful}
 use Rattle.ad_printer.specs.Values.{printed_frame}
 use Rattle.claim_table.specs.Priorities.{Setting, lacks_place}
-use Rattle.pool_state.specs.Gangs.{gang, gang_names, line}
-use Rattle.pool_state.specs.Explaining.{ad_names, explain, explain_job}
-use Rattle.pool_state.specs.Ports.{has_bad_ports, ports_in}
-use Rattle.pool_state.specs.Queue.{has_job, job_refusal, job_text}
+use Rattle.pool_commands.specs.Gangs.{gang, gang_names, line}
+use Rattle.pool_commands.specs.Explaining.{ad_names, explain, explain_job}
+use Rattle.pool_books.specs.Ports.{has_bad_ports, ports_in}
+use Rattle.pool_books.specs.Queue.{has_job, job_refusal, job_text}
 use Rattle.claim_table.specs.Jobs.{jobs_limit, text_limit}
 use Rattle.claim_table.specs.declared.answers.JobState.{JobState}
-use Rattle.pool_state.specs.Status.{show_job}
-use Rattle.pool_state.specs.State.{JobStanding, QueuedJob, State, claimed, idle, matched}
+use Rattle.pool_commands.specs.Status.{show_job}
+use Rattle.pool_books.specs.State.{JobStanding, QueuedJob, State, claimed, idle, matched}
 use Rattle.pool_state.specs.Heard.{Heard, is_unlisten, listens, step_heard}
 use Rattle.pool_state.proofs.HeardLemmas.{heard-other}
-use Rattle.pool_state.specs.Claiming.{checked, claim, claim_as, first_failing, job_named, losers, release, release_as, restood, without_holders}
-use Rattle.pool_state.specs.Step.{ad_named, advertise, clock, eval, eval_beside, eval_in, put_ad, query, refused, remove, room_of, set_priority, show, step}
-use Rattle.pool_state.specs.Step.{submit, take_job, withdraw}
+use Rattle.pool_books.specs.Claiming.{checked, claim, claim_as, first_failing, job_named, losers, release, release_as, restood, without_holders}
+use Rattle.pool_commands.specs.Ads.{ad_named, advertise, put_ad, room_of, show}
+use Rattle.pool_state.specs.Step.{clock, step}
+use Rattle.pool_commands.specs.Expressions.{eval, eval_beside, eval_in}
+use Rattle.pool_commands.specs.Queries.{query}
+use Rattle.pool_books.specs.State.{refused}
+use Rattle.pool_commands.specs.Jobs.{remove, set_priority}
+use Rattle.pool_commands.specs.Jobs.{submit, take_job}
+use Rattle.pool_commands.specs.Ads.{withdraw}
 
 -- ---- no reply is empty
 

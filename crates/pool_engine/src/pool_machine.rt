@@ -5,7 +5,7 @@ ghost use Rattle.pool_script.specs.Standing.{Stands};
 ghost use Rattle.pool_replies.specs.Replies.{is_printable, refusal_count, reply_text};
 ghost use Rattle.pool_state.specs.Heard.{heard, step_heard};
 ghost use Rattle.pool_state.specs.Pool.{state_of};
-ghost use Rattle.pool_state.specs.State.{opening};
+ghost use Rattle.pool_books.specs.State.{opening};
 ghost use Rattle.script_run.specs.Effects.{beside};
 ghost use Rattle.run_rules.specs.PoolRules.{Ran, WasTried};
 

@@ -13,7 +13,7 @@ ghost use Rattle.run_rules.specs.Events.{event_of, events_of};
 ghost use Rattle.run_rules.specs.PoolRules.{WasTried, pool_rules};
 ghost use Rattle.pool_state.specs.Heard.{Heard, heard, opened};
 ghost use Rattle.pool_state.specs.Pool.{state_of};
-ghost use Rattle.pool_state.specs.State.{opening};
+ghost use Rattle.pool_books.specs.State.{opening};
 ghost use Rattle.pool_engine.specs.Workloads.{IsSummaryOf, WorkloadEnds, silent, summary_of, workload_commands, workload_events};
 
 use crate::pool_machine::run_command;

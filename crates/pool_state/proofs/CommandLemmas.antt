@@ -3,9 +3,11 @@
 use Rattle.std.proofs.Common.{arith, ◌≡◌, ◌≤◌, ◌+◌, ◌*◌, ℕ, List, length, refl}
 use Rattle.ad_parser.specs.Outcomes.{ad_outcome}
 use Rattle.pool_script.specs.declared.command.Command.TheVariants as command
-use Rattle.pool_state.specs.Claiming.{claim, offered_for_claim, release, undecided_for_claim}
-use Rattle.pool_state.specs.State.{State}
-use Rattle.pool_state.specs.Step.{advertise, allowance, looks, remove, set_priority, step, submit, undecided, withdraw}
+use Rattle.pool_books.specs.Claiming.{claim, offered_for_claim, release, undecided_for_claim}
+use Rattle.pool_books.specs.State.{State}
+use Rattle.pool_commands.specs.Ads.{advertise, withdraw}
+use Rattle.pool_commands.specs.Jobs.{remove, set_priority, submit}
+use Rattle.pool_state.specs.Step.{allowance, looks, step, undecided}
 
 pub step-Advertise : (s : State) (name : List ℕ) (lifetime : ℕ) (block : List ℕ)
     → step s (command.Advertise name lifetime block) ≡ advertise s name lifetime (length block) (ad_outcome block)

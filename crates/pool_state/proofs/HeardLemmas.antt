@@ -4,18 +4,18 @@ use Rattle.std.proofs.Common.{IfOk, OnOk, Result, Ok, Err, bytes_eq, refl, trueâ
 use Rattle.std.specs.List.{AllZip}
 use Rattle.notice_desk.specs.Desk.{Row, failures_under, leaves_with, names_of, without}
 use Rattle.pool_script.specs.declared.command.Command.{Command}
+use Rattle.pool_replies.specs.declared.reply.Reply.{Reply}
+use Rattle.pool_text.specs.declared.memory.OutOfMemory.{OutOfMemory}
 use Rattle.pool_script.specs.declared.command.Command.TheVariants as command
 use Rattle.pool_replies.specs.declared.refusal.Refusal.TheVariants as why
-use Rattle.pool_replies.specs.declared.reply.Reply.{Reply}
 use Rattle.pool_replies.specs.declared.reply.Reply.TheVariants as reply
+use Rattle.pool_books.specs.State.{State}
 use Rattle.pool_state.specs.Heard.{Heard, heard, is_unlisten, kept, kept_by, listens, off_by, others, step_heard, step_pool, unlisten}
 use Rattle.pool_state.specs.Notices.{granted, notices, stale, told}
 use Rattle.pool_state.specs.Posting.{ArePosted, DeskState, Post, RowAfter, desk_of, posts_of_all}
-use Rattle.pool_state.specs.declared.posting.Notice.{Notice}
-use Rattle.pool_text.specs.declared.memory.OutOfMemory.{OutOfMemory}
-use Rattle.pool_state.proofs.PostingLemmas.{rows_none}
-use Rattle.pool_state.specs.State.{State}
 use Rattle.pool_state.specs.Step.{step}
+use Rattle.pool_state.specs.declared.posting.Notice.{Notice}
+use Rattle.pool_state.proofs.PostingLemmas.{rows_none}
 
 -- ---- names
 

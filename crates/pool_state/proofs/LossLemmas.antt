@@ -1,6 +1,6 @@
 -- The jobs that lose their resources, by slots and by names, and what is told of them.
 use Rattle.std.proofs.Common.{◌≡◌, ℕ, zero, suc, ◌+◌, ◌<◌, All, Bool, true, false, ◌||◌, cond, List, [], ◌∷◌, ◌++◌, codes, length, map, position, slice_get}
-use Rattle.std.proofs.Common.{take, Contains, Option, None, Some, option_map, Result, Ok, Err, IfSome, OnOk, refl, sym, ◌∙◌, ap, arith}
+use Rattle.std.proofs.Common.{take, Contains, Option, None, Some, option_map, IfSome, refl, sym, ◌∙◌, ap, arith}
 use Rattle.std.specs.List.{list_all, list_any}
 use Rattle.std.specs.Option.{option_and_then, option_map_or}
 use Rattle.std.proofs.lemmas.List.{map-append}
@@ -15,20 +15,21 @@ use Rattle.claim_table.specs.Claims.{once}
 use Rattle.claim_table.specs.Jobs.{AreNamedApart, claim_of, claimed_by as claimer, job_named as job_numbered, lists, numbered, offer_of, offered_to as offeree}
 use Rattle.claim_table.specs.Jobs.{slots_of}
 use Rattle.claim_table.proofs.ListLemmas.{position-map}
-use Rattle.pool_state.specs.declared.posting.Notice.{Notice}
-use Rattle.pool_state.specs.ClaimAnswers.{names_given}
-use Rattle.pool_state.specs.Claiming.{job_named}
+use Rattle.pool_books.specs.Books.{name_in, named_standing, queued}
+use Rattle.pool_books.specs.ClaimAnswers.{names_given}
+use Rattle.pool_books.specs.Claiming.{job_named}
+use Rattle.pool_books.specs.Queue.{claim_names, is_job, is_listed, names_of, offer_names}
+use Rattle.pool_books.specs.State.{QueuedJob}
+use Rattle.pool_books.specs.Stored.{are_stored, is_stored}
+use Rattle.pool_books.proofs.ClaimLemmas.{given-seen}
+use Rattle.pool_books.proofs.JobLemmas.{found-first}
+use Rattle.pool_books.proofs.NameLemmas.{AreBeside, Named, beside-is, name_there, named_beside}
+use Rattle.pool_books.proofs.QueueLemmas.{names-mapped, position-cons}
+use Rattle.pool_books.proofs.SlotLemmas.{contains-lists, position-at}
+use Rattle.pool_commands.proofs.JobLemmas.{claim_seen, offer_seen}
 use Rattle.pool_state.specs.Notices.{about, about_job, claimed_at, granted_to, had_by, holders, loss, loss_at, loss_of, losses, offered_at}
-use Rattle.pool_state.specs.Pool.{name_in, named_standing, queued}
-use Rattle.pool_state.specs.Queue.{claim_names, is_job, is_listed, names_of, offer_names}
-use Rattle.pool_state.specs.State.{QueuedJob}
-use Rattle.pool_state.specs.Stored.{are_stored, is_stored}
-use Rattle.pool_state.proofs.ClaimLemmas.{given-seen}
-use Rattle.pool_state.proofs.JobLemmas.{claim_seen, found-first, offer_seen}
-use Rattle.pool_state.proofs.NameLemmas.{AreBeside, Named, beside-is, name_there, named_beside}
+use Rattle.pool_state.specs.declared.posting.Notice.{Notice}
 use Rattle.pool_state.proofs.PostingLemmas.{take-next}
-use Rattle.pool_state.proofs.QueueLemmas.{names-mapped, position-cons}
-use Rattle.pool_state.proofs.SlotLemmas.{contains-lists, position-at}
 
 -- ---- a search from the front
 
@@ -52,11 +53,6 @@ place-where p f g (x ∷ xs) all same =
     let parts = both (p x) (list_all p xs) all in
     position-cons f x xs ∙ ap (λ b. cond b (Some 0) (option_map suc (position f xs))) (same x parts.0)
     ∙ ap (λ o. cond (g x) (Some 0) (option_map suc o)) (place-where p f g xs parts.1 same) ∙ sym (position-cons g x xs)
-
--- what holds where a call is Ok
-pub on_ok : {T E : Type 0} (r : Result T E) (P Q : Type 0) → (P → Q) → OnOk r P → OnOk r Q
-on_ok (Ok x) P Q more p = more p
-on_ok (Err e) P Q more p = tt
 
 -- ---- the job at a place
 

@@ -3,12 +3,12 @@ use Rattle.std.specs.Prelude.{ℕ, Bool, true, false, not, List, [], ◌∷◌, 
 use Rattle.std.specs.List.{list_any}
 use Rattle.notice_desk.specs.Desk.{Row, leaves_with, names_of, without}
 use Rattle.pool_script.specs.declared.command.Command.{Command}
+use Rattle.pool_replies.specs.declared.reply.Reply.{Reply}
 use Rattle.pool_script.specs.declared.command.Command.TheVariants as command
 use Rattle.pool_replies.specs.declared.refusal.Refusal.TheVariants as why
-use Rattle.pool_replies.specs.declared.reply.Reply.{Reply}
 use Rattle.pool_replies.specs.declared.reply.Reply.TheVariants as reply
+use Rattle.pool_books.specs.State.{State, opening}
 use Rattle.pool_state.specs.Posting.{DeskState, desk_of}
-use Rattle.pool_state.specs.State.{State, opening}
 use Rattle.pool_state.specs.Step.{step}
 
 -- the state of the pool, and the names that listen

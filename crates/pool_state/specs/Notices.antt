@@ -5,19 +5,19 @@ use Rattle.std.specs.Option.{option_map_or}
 use Rattle.ad_store.specs.Stock.{Advert, has, is_live}
 use Rattle.claim_table.specs.Claims.{once}
 use Rattle.pool_script.specs.declared.command.Command.{Command}
-use Rattle.pool_script.specs.declared.command.Command.TheVariants as command
 use Rattle.pool_replies.specs.Cycles.{with_blanks}
-use Rattle.pool_replies.specs.declared.refusal.Refusal.TheVariants as why
 use Rattle.pool_replies.specs.declared.reply.Reply.{Reply}
-use Rattle.pool_replies.specs.declared.reply.Reply.TheVariants as reply
 use Rattle.pool_replies.specs.declared.rows.OfferRow.{OfferRow}
 use Rattle.pool_replies.specs.declared.rows.SpinRow.{SpinRow}
 use Rattle.pool_replies.specs.declared.rows.TurnRow.{TurnRow}
-use Rattle.pool_state.specs.declared.posting.Notice.{Notice}
-use Rattle.pool_state.specs.Claiming.{job_named}
-use Rattle.pool_state.specs.Queue.{claim_names, is_listed, names_of, offer_names}
-use Rattle.pool_state.specs.State.{QueuedJob, State}
+use Rattle.pool_script.specs.declared.command.Command.TheVariants as command
+use Rattle.pool_replies.specs.declared.refusal.Refusal.TheVariants as why
+use Rattle.pool_replies.specs.declared.reply.Reply.TheVariants as reply
+use Rattle.pool_books.specs.Claiming.{job_named}
+use Rattle.pool_books.specs.Queue.{claim_names, is_listed, names_of, offer_names}
+use Rattle.pool_books.specs.State.{QueuedJob, State}
 use Rattle.pool_state.specs.Step.{step}
+use Rattle.pool_state.specs.declared.posting.Notice.{Notice}
 
 -- ---- a notice
 

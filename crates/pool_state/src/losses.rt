@@ -3,16 +3,14 @@ ghost use Rattle.std.specs.Prelude.{◌≡◌, ◌<◌, ◌++◌, ◌∷◌, [],
 ghost use Rattle.ad_store.specs.Store.{stock_of};
 ghost use Rattle.claim_table.specs.Claims.{once};
 ghost use Rattle.claim_table.specs.Table.{jobs_of};
-ghost use Rattle.pool_state.specs.Books.{queue_of};
-ghost use Rattle.pool_state.specs.Indexed.{ads_of};
+ghost use Rattle.pool_books.specs.Books.{queue_of, name_in};
+ghost use Rattle.pool_books.specs.Indexed.{ads_of};
 ghost use Rattle.pool_state.specs.Notices as rules;
-ghost use Rattle.pool_state.specs.Pool.{name_in};
 
-use crate::books::Books;
-use crate::claiming::names_given;
 use crate::notices::about;
 use crate::places::Places;
 use crate::posting::{Notice, NoticeList};
+use pool_books::{Books, names_given};
 use pool_script::Command;
 use pool_text::{OutOfMemory, Slots};
 use std::alloc::Global;

@@ -2,9 +2,9 @@
 ghost use Rattle.std.specs.Prelude.{◌≡◌, ◌++◌, ◌∷◌, bytes_eq, codes, IfOk, OnErr, OnOk};
 ghost use Rattle.std.specs.List.{AllZip};
 ghost use Rattle.pool_replies.specs.Cycles.{with_blanks};
+ghost use Rattle.pool_books.specs.Queue.{is_listed};
 ghost use Rattle.pool_state.specs.Notices as rules;
 ghost use Rattle.pool_state.specs.Posting.{ArePosted, RowAfter, desk_of, posts_of_all};
-ghost use Rattle.pool_state.specs.Queue.{is_listed};
 
 use crate::posting::{Notice, NoticeList, post_all};
 use notice_desk::Notices;

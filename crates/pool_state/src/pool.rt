@@ -6,35 +6,26 @@ ghost use Rattle.ad_candidates.specs.Rows.{rows_of};
 ghost use Rattle.literal_index.specs.Shown.{IsIndex};
 ghost use Rattle.notice_desk.specs.Desk.{leaves_with, without};
 ghost use Rattle.pool_script.specs.Form.{is_within_form};
-ghost use Rattle.pool_replies.specs.Refusals.{is_fault_of_text};
 ghost use Rattle.pool_replies.specs.Replies.{is_printable};
 ghost use Rattle.pool_replies.specs.declared.refusal.Refusal.TheVariants as why;
-ghost use Rattle.pool_replies.specs.declared.reply.Reply.TheVariants as replies;
+ghost use Rattle.pool_books.specs.State.{State, opening};
 ghost use Rattle.pool_state.specs.Apart.{AreGivenApart};
 ghost use Rattle.pool_state.specs.Changes.{changes_nothing, is_search, keeps_ads};
 ghost use Rattle.pool_state.specs.Heard as rules;
 ghost use Rattle.pool_state.specs.Heard.{heard, kept_by, off_by, step_heard};
 ghost use Rattle.pool_state.specs.Notices.{notices};
 ghost use Rattle.pool_state.specs.Posting.{ArePosted, RowAfter, desk_of, posts_of_all};
-ghost use Rattle.pool_state.specs.State.{State, opening};
 ghost use Rattle.pool_state.specs.Step as steps;
 
-use crate::ads::{advertise, list, show, withdraw};
-use crate::books::Books;
-use crate::claiming::{claim, release};
-use crate::classing::classify;
-use crate::eval::{eval, eval_in};
-use crate::explaining::explain;
-use crate::gangs::gang;
-use crate::jobs::{remove, set_priority, submit};
 use crate::losses::{granted, stale};
-use crate::negotiation::negotiate;
 use crate::notices::tell;
-use crate::query::query;
-use crate::queue::{jobs, show_job, users};
-use ad_parser::ParseFault;
 use negotiator::Priorities;
 use notice_desk::Notices;
+use pool_books::Books;
+use pool_commands::{
+    advertise, claim, classify, eval, eval_in, explain, gang, jobs, list, negotiate, query,
+    release, remove, set_priority, show, show_job, submit, users, withdraw,
+};
 use pool_replies::{Refusal, Reply};
 use pool_script::Command;
 use pool_steps::Steps;
@@ -396,17 +387,5 @@ fn unlisten<D: Notices>(desk: &mut D, name: &Text) -> Result<Reply, OutOfMemory>
         Ok(Reply::Unlistened(named))
     } else {
         Ok(Reply::Refused(Refusal::UnknownName))
-    }
-}
-
-/// The reply to a text that has a fault; want of memory is none.
-#[tactic(auto, unfolding(pool_replies::specs::Replies::is_printable, pool_replies::specs::Refusals::is_printable_refusal))]
-pub(crate) fn faulty(fault: ParseFault) -> Result<Reply, OutOfMemory>
-    ensures reply { IfOk result (λ reply. (reply ≡ replies.Refused (why.AdText fault)) × (is_fault_of_text fault ≡ true)) }
-    ensures printable { IfOk result (λ reply. IsTrue (is_printable reply)) }
-{
-    match fault {
-        ParseFault::OutOfMemory => Err(OutOfMemory),
-        fault => Ok(Reply::Refused(Refusal::AdText(fault))),
     }
 }

@@ -4,11 +4,13 @@
 ghost use Rattle.std.specs.Prelude.{◌≡◌, ℕ, ◌+◌, ◌<◌};
 
 use std::marker::Model;
+use std::rt::Process;
 use std::sync::ledger::{Blank, Book, Ledger, Share};
 
 /// How many steps were taken; what a step is, is said where one is counted. `tick` alone changes the number, and only
 /// upwards, so a bound on it bounds what was done. Each counter is of a ledger `L` of its own, and so two of them can't be
-/// exchanged.
+/// exchanged; and none is made but by a runtime, which only `main` and tests are given. So whatever counts below them counts in
+/// one of the counters that it was handed.
 #[derive(Drop)]
 pub struct Steps<L: Ledger> {
     book: Book<L>,
@@ -24,8 +26,9 @@ impl<L: Ledger> Model for Steps<L> {
 }
 
 impl<L: Ledger> Steps<L> {
-    /// A counter at 0, over a ledger that no other counter is of. A caller picks `L` by the blank's name and parts.
-    pub fn new(blank: Blank) -> Steps<L>
+    /// A counter at 0, over a ledger that no other counter is of. A caller picks `L` by the blank's name and parts. The handle is
+    /// one that only a runtime gives; nothing is done with it.
+    pub fn new(_process: Process, blank: Blank) -> Steps<L>
         requires name { blank.name ≡ L.name }
         requires parts { blank.parts ≡ L.parts }
         requires some { 0 < blank.parts }

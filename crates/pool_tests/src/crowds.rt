@@ -1,5 +1,5 @@
 // Pools with as many ads, as much text and as many faults as there may be.
-use crate::runs::{assert_run, run};
+use crate::runs::{Host, assert_run, host_of, run};
 use pool_engine::RunEnd;
 use pool_text::{OutOfMemory, Text, append_count};
 use std::alloc::Global;
@@ -28,12 +28,12 @@ fn append_machine(script: &mut Text, i: u64) -> Result<(), OutOfMemory> {
 // A run of this script refuses one command, and its last replies are these.
 fn assert_last(
     rt: &impl Abort,
-    alloc: Global,
+    host: Host,
     script: &[u8],
     read: usize,
     last: &[u8],
 ) -> Result<(), OutOfMemory> {
-    let (end, written) = run(alloc, script, (read, 4096), 0, 0)?;
+    let (end, written) = run(host, script, (read, 4096), 0, 0)?;
     assert!(rt; end == RunEnd::Done { refused: 1 });
     assert!(rt; written.bytes().ends_with(last));
     Ok(())
@@ -50,7 +50,7 @@ const HITS: &[u8] =
 fn ten_thousand_ads_of_a_thousand_names(rt: HostRuntime) -> Result<(), Fail> {
     let mut script = machines(rt.alloc(), 10_000)?;
     script.append(QUERIES)?;
-    assert_last(&rt, rt.alloc(), script.bytes(), 4096, HITS)?;
+    assert_last(&rt, host_of(&rt), script.bytes(), 4096, HITS)?;
     Ok(())
 }
 
@@ -93,7 +93,7 @@ const ONE_REFUSED: &[u8] =
 fn ads_have_32_mebibytes_of_text_together(rt: HostRuntime) -> Result<(), Fail> {
     let mut script = long_texts(rt.alloc(), 512)?;
     script.append(MORE)?;
-    assert_last(&rt, rt.alloc(), script.bytes(), 65536, ONE_REFUSED)?;
+    assert_last(&rt, host_of(&rt), script.bytes(), 65536, ONE_REFUSED)?;
     Ok(())
 }
 
@@ -145,7 +145,7 @@ fn two_thousand_jobs_in_forty_classes(rt: HostRuntime) -> Result<(), Fail> {
     let mut script = jobs_of_forty_kinds(rt.alloc(), 2000)?;
     script.append(b"classes\n")?;
     let classes = forty_classes(rt.alloc(), 2000)?;
-    assert_last(&rt, rt.alloc(), script.bytes(), 4096, classes.bytes())?;
+    assert_last(&rt, host_of(&rt), script.bytes(), 4096, classes.bytes())?;
     Ok(())
 }
 
@@ -223,21 +223,21 @@ refused 2 unknown command
 #[test]
 fn all_commands_are_answered(rt: HostRuntime) -> Result<(), Fail> {
     let end = RunEnd::Done { refused: 1 };
-    assert_run(&rt, rt.alloc(), ALL, (16, 16), (0, 0), end, ALL_REPLIES)?;
+    assert_run(&rt, host_of(&rt), ALL, (16, 16), (0, 0), end, ALL_REPLIES)?;
     let end = RunEnd::Done { refused: 1 };
-    assert_run(&rt, rt.alloc(), ALL, (1, 1), (0, 0), end, ALL_REPLIES)?;
+    assert_run(&rt, host_of(&rt), ALL, (1, 1), (0, 0), end, ALL_REPLIES)?;
     Ok(())
 }
 
 // A run that fails at these calls ends like this, and what is written is where the replies begin.
 fn assert_fails(
     rt: &impl Abort,
-    alloc: Global,
+    host: Host,
     source_fails: usize,
     sink_fails: usize,
     wanted: RunEnd,
 ) -> Result<(), OutOfMemory> {
-    let (end, written) = run(alloc, ALL, (16, 16), source_fails, sink_fails)?;
+    let (end, written) = run(host, ALL, (16, 16), source_fails, sink_fails)?;
     assert!(rt; end == wanted);
     assert!(rt; ALL_REPLIES.starts_with(written.bytes()));
     Ok(())
@@ -246,7 +246,7 @@ fn assert_fails(
 #[test]
 fn each_read_may_fail_among_all_commands(rt: HostRuntime) -> Result<(), Fail> {
     for call in 1..=ALL.len() / 16 + 1 {
-        assert_fails(&rt, rt.alloc(), call, 0, RunEnd::ReadFault)?;
+        assert_fails(&rt, host_of(&rt), call, 0, RunEnd::ReadFault)?;
     }
     Ok(())
 }
@@ -254,7 +254,7 @@ fn each_read_may_fail_among_all_commands(rt: HostRuntime) -> Result<(), Fail> {
 #[test]
 fn each_write_may_fail_among_all_commands(rt: HostRuntime) -> Result<(), Fail> {
     for call in 1..=ALL_REPLIES.len() / 16 + 1 {
-        assert_fails(&rt, rt.alloc(), 0, call, RunEnd::WriteFault)?;
+        assert_fails(&rt, host_of(&rt), 0, call, RunEnd::WriteFault)?;
     }
     Ok(())
 }

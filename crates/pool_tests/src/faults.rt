@@ -2,7 +2,7 @@
 use crate::mail::{
     Seen, assert_replies, assert_shows, listen, run_heard, what_is_seen, write_replies,
 };
-use crate::runs::assert_run;
+use crate::runs::{Host, assert_run, host_of};
 use notice_desk::{Desk, FileMailbox};
 use pool_engine::RunEnd;
 use pool_text::{OutOfMemory, Text, append_count};
@@ -89,7 +89,7 @@ fn each_fault_in_its_turn(rt: HostRuntime) -> Result<(), Fail> {
     for case in CASES {
         assert_run(
             &rt,
-            rt.alloc(),
+            host_of(&rt),
             case.script,
             case.most,
             case.fails,
@@ -103,13 +103,13 @@ fn each_fault_in_its_turn(rt: HostRuntime) -> Result<(), Fail> {
 // A run of a script without a fault refuses so many commands, and writes this.
 fn assert_written(
     rt: &impl Abort,
-    alloc: Global,
+    host: Host,
     script: &[u8],
     refused: u64,
     written: &[u8],
 ) -> Result<(), OutOfMemory> {
     let end = RunEnd::Done { refused };
-    assert_run(rt, alloc, script, (4096, 4096), (0, 0), end, written)
+    assert_run(rt, host, script, (4096, 4096), (0, 0), end, written)
 }
 
 // The text so many times.
@@ -127,7 +127,7 @@ fn a_line_of_65536_bytes_is_read(rt: HostRuntime) -> Result<(), Fail> {
     line.append(b"\n")?;
     assert_written(
         &rt,
-        rt.alloc(),
+        host_of(&rt),
         line.bytes(),
         1,
         b"refused 2 unknown command\n",
@@ -136,7 +136,7 @@ fn a_line_of_65536_bytes_is_read(rt: HostRuntime) -> Result<(), Fail> {
     longer.append(line.bytes())?;
     assert_written(
         &rt,
-        rt.alloc(),
+        host_of(&rt),
         longer.bytes(),
         1,
         b"refused 1 line too long\n",
@@ -153,7 +153,7 @@ const MATCHES: &[u8] =
 
 #[test]
 fn a_box_fails_at_its_first_notice(rt: HostRuntime) -> Result<(), Fail> {
-    let seen = run_heard(rt.alloc(), MATCHED, 1)?;
+    let seen = run_heard(host_of(&rt), MATCHED, 1)?;
     assert_replies(&rt, &seen, MATCHES);
     assert!(rt; seen.m.is_none() && seen.failures == Some(1));
     assert_shows(&rt, &seen.u, b"matched j m\n");
@@ -161,24 +161,24 @@ fn a_box_fails_at_its_first_notice(rt: HostRuntime) -> Result<(), Fail> {
 }
 
 // A run with boxes for `m` and `u`, which both fail at their first notice.
-fn run_deaf(alloc: Global, script: &[u8]) -> Result<Seen, OutOfMemory> {
-    let mut desk = Desk::new(alloc);
-    let seen = run_deaf_on(alloc, script, &mut desk);
+fn run_deaf(host: Host, script: &[u8]) -> Result<Seen, OutOfMemory> {
+    let mut desk = Desk::new(host.alloc);
+    let seen = run_deaf_on(host, script, &mut desk);
     drop(desk);
     seen
 }
 
 // The same on a desk that is empty.
-fn run_deaf_on(alloc: Global, script: &[u8], desk: &mut Desk) -> Result<Seen, OutOfMemory> {
-    listen(alloc, desk, b"m", 1)?;
-    listen(alloc, desk, b"u", 1)?;
-    let replies = write_replies(alloc, script, desk)?;
-    what_is_seen(alloc, desk, replies)
+fn run_deaf_on(host: Host, script: &[u8], desk: &mut Desk) -> Result<Seen, OutOfMemory> {
+    listen(host.alloc, desk, b"m", 1)?;
+    listen(host.alloc, desk, b"u", 1)?;
+    let replies = write_replies(host, script, desk)?;
+    what_is_seen(host.alloc, desk, replies)
 }
 
 #[test]
 fn both_boxes_fail(rt: HostRuntime) -> Result<(), Fail> {
-    let seen = run_deaf(rt.alloc(), MATCHED)?;
+    let seen = run_deaf(host_of(&rt), MATCHED)?;
     assert_replies(&rt, &seen, MATCHES);
     assert!(rt; seen.m.is_none() && seen.u.is_none() && seen.failures == Some(1));
     Ok(())
@@ -189,7 +189,7 @@ fn run_filed(rt: &HostRuntime, script: &[u8], desk: &mut Desk) -> Result<Seen, O
     let file = Text::from_bytes(rt.alloc(), b"no such folder/m")?;
     let mailbox = Box::new(rt.alloc(), FileMailbox::new(*rt, file))?;
     drop(desk.add(b"m", mailbox));
-    let replies = write_replies(rt.alloc(), script, desk)?;
+    let replies = write_replies(host_of(rt), script, desk)?;
     what_is_seen(rt.alloc(), desk, replies)
 }
 
@@ -233,7 +233,7 @@ fn doublings_take_no_time(rt: HostRuntime) -> Result<(), Fail> {
     let script = doublings(rt.alloc(), 22)?;
     assert_written(
         &rt,
-        rt.alloc(),
+        host_of(&rt),
         script.bytes(),
         0,
         b"advertised x\nhits 1\nx 0\n",
@@ -241,7 +241,7 @@ fn doublings_take_no_time(rt: HostRuntime) -> Result<(), Fail> {
     let longer = doublings(rt.alloc(), 23)?;
     assert_written(
         &rt,
-        rt.alloc(),
+        host_of(&rt),
         longer.bytes(),
         0,
         b"advertised x\nhits 0\n",
@@ -268,7 +268,7 @@ fn wide_sums_take_no_time(rt: HostRuntime) -> Result<(), Fail> {
     script.append(b"]\n.\nevalin x X8\n")?;
     assert_written(
         &rt,
-        rt.alloc(),
+        host_of(&rt),
         script.bytes(),
         0,
         b"advertised x\n1099511627776\n",
@@ -332,6 +332,6 @@ fn decided_docks_evaluate_nothing(rt: HostRuntime) -> Result<(), Fail> {
     let queries = repeated(rt.alloc(), query.bytes(), 20)?;
     script.append(queries.bytes())?;
     let written = no_hits(rt.alloc(), 20)?;
-    assert_written(&rt, rt.alloc(), script.bytes(), 0, written.bytes())?;
+    assert_written(&rt, host_of(&rt), script.bytes(), 0, written.bytes())?;
     Ok(())
 }

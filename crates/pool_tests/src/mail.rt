@@ -1,5 +1,5 @@
 // Mailboxes that listen to a run.
-use crate::runs::{calls, run_over, source_of};
+use crate::runs::{Host, calls, host_of, run_over, source_of};
 use notice_desk::{Desk, MemoryMailbox, Notices};
 use pool_engine::*;
 use pool_text::{OutOfMemory, Text};
@@ -33,24 +33,19 @@ fn mailbox(alloc: Global, fails: usize) -> Result<Box<MemoryMailbox>, OutOfMemor
 }
 
 /// Runs a script with a box for `m`, which fails at one of its notices, and a box for `u`.
-pub(crate) fn run_heard(alloc: Global, script: &[u8], fails: usize) -> Result<Seen, OutOfMemory> {
-    let mut desk = Desk::new(alloc);
-    let seen = run_on(alloc, script, fails, &mut desk);
+pub(crate) fn run_heard(host: Host, script: &[u8], fails: usize) -> Result<Seen, OutOfMemory> {
+    let mut desk = Desk::new(host.alloc);
+    let seen = run_on(host, script, fails, &mut desk);
     drop(desk);
     seen
 }
 
 // The same on a desk that is empty.
-fn run_on(
-    alloc: Global,
-    script: &[u8],
-    fails: usize,
-    desk: &mut Desk,
-) -> Result<Seen, OutOfMemory> {
-    listen(alloc, desk, b"m", fails)?;
-    listen(alloc, desk, b"u", 0)?;
-    let replies = write_replies(alloc, script, desk)?;
-    what_is_seen(alloc, desk, replies)
+fn run_on(host: Host, script: &[u8], fails: usize, desk: &mut Desk) -> Result<Seen, OutOfMemory> {
+    listen(host.alloc, desk, b"m", fails)?;
+    listen(host.alloc, desk, b"u", 0)?;
+    let replies = write_replies(host, script, desk)?;
+    what_is_seen(host.alloc, desk, replies)
 }
 
 /// Puts a box on a desk, which fails at one of its notices.
@@ -85,12 +80,12 @@ fn kept(alloc: Global, shown: Option<&[u8]>) -> Result<Option<Text>, OutOfMemory
 
 /// What a script writes, over a desk.
 pub(crate) fn write_replies<D: Notices>(
-    alloc: Global,
+    host: Host,
     script: &[u8],
     desk: &mut D,
 ) -> Result<Text, OutOfMemory> {
-    let mut source = source_of(alloc, script, 7, 0)?;
-    let ran = run_over(alloc, &[], &mut source, (99, 0), desk);
+    let mut source = source_of(host.alloc, script, 7, 0)?;
+    let ran = run_over(host, &[], &mut source, (99, 0), desk);
     drop(source);
     let (_, written) = ran?;
     Ok(written)
@@ -116,7 +111,7 @@ pub(crate) fn assert_shows(rt: &impl Abort, shown: &Option<Text>, wanted: &[u8])
 
 #[test]
 fn each_name_takes_its_notices_in_order(rt: HostRuntime) -> Result<(), Fail> {
-    let seen = run_heard(rt.alloc(), SCRIPT, 0)?;
+    let seen = run_heard(host_of(&rt), SCRIPT, 0)?;
     assert_replies(&rt, &seen, REPLIES);
     assert_shows(&rt, &seen.m, NOTICES);
     assert_shows(&rt, &seen.u, NOTICES);
@@ -126,7 +121,7 @@ fn each_name_takes_its_notices_in_order(rt: HostRuntime) -> Result<(), Fail> {
 #[test]
 fn a_box_that_fails_is_dropped_and_changes_no_reply(rt: HostRuntime) -> Result<(), Fail> {
     for fails in 1..8 {
-        let seen = run_heard(rt.alloc(), SCRIPT, fails)?;
+        let seen = run_heard(host_of(&rt), SCRIPT, fails)?;
         assert_replies(&rt, &seen, REPLIES);
         assert!(rt; seen.m.is_none() && seen.failures == Some(1));
         assert_shows(&rt, &seen.u, NOTICES);
@@ -140,7 +135,7 @@ fn a_name_that_is_taken_off_takes_no_more(rt: HostRuntime) -> Result<(), Fail> {
         b"advertise m 9\n[ Requirements = true ]\n.\nunlisten m\nunlisten m\nsubmit j u\n[ Requirements = true ]\n.\nnegotiate\nclock 9\n";
     let wanted =
         b"advertised m\nunlistened m\nrefused 8 name not known\nsubmitted j\nspin 1 free 1\nslice u 1\noffer j u m\nspin 2 free 0\noffers 1\nclock 9 expired 1\n";
-    let seen = run_heard(rt.alloc(), script, 0)?;
+    let seen = run_heard(host_of(&rt), script, 0)?;
     assert_replies(&rt, &seen, wanted);
     assert!(rt; seen.failures.is_none());
     assert_shows(&rt, &seen.u, b"matched j m\nfreed j m\n");
@@ -151,7 +146,7 @@ fn a_name_that_is_taken_off_takes_no_more(rt: HostRuntime) -> Result<(), Fail> {
 fn a_name_that_is_user_and_resource_is_told_once(rt: HostRuntime) -> Result<(), Fail> {
     let script =
         b"advertise m 9\n[ Requirements = true ]\n.\nsubmit j m\n[ Requirements = true ]\n.\nnegotiate\n";
-    let seen = run_heard(rt.alloc(), script, 0)?;
+    let seen = run_heard(host_of(&rt), script, 0)?;
     assert_shows(&rt, &seen.m, b"matched j m\n");
     assert_shows(&rt, &seen.u, b"");
     Ok(())

@@ -1,5 +1,5 @@
 // The memory of many runs in one process.
-use crate::runs::assert_run;
+use crate::runs::{assert_run, host_of};
 use pool_engine::RunEnd;
 use pool_text::{OutOfMemory, Text, append_count, read_number};
 use std::alloc::Global;
@@ -42,7 +42,7 @@ fn many_runs_take_the_memory_of_one(rt: HostRuntime) -> Result<(), Fail> {
     for i in 0..RUNS {
         assert_run(
             &rt,
-            rt.alloc(),
+            host_of(&rt),
             script.bytes(),
             (4096, 4096),
             (0, 0),

@@ -10,8 +10,23 @@ use pool_text::{OutOfMemory, Slots, Text};
 use std::alloc::Global;
 use std::marker::Brand;
 use std::process::Abort;
+use std::rt::Process;
 use std::sync::ledger::{Blank, Ledger};
 use std::test::Fail;
+
+/// What a run takes of the runtime: memory, and the handle by which its counters are made.
+#[derive(Clone, Copy)]
+pub(crate) struct Host {
+    pub(crate) alloc: Global,
+    pub(crate) process: Process,
+}
+
+pub(crate) fn host_of(rt: &HostRuntime) -> Host {
+    Host {
+        alloc: rt.alloc(),
+        process: rt.process(),
+    }
+}
 
 // The number of the one call that fails, or of none where it is 0.
 pub(crate) fn calls(alloc: Global, number: usize) -> Result<Slots, OutOfMemory> {
@@ -42,42 +57,42 @@ pub(crate) fn sink_of(alloc: Global, most: usize, fails: usize) -> Result<Memory
 
 /// How a run ends over a sink that takes so many bytes a call and fails at one call, and what was written.
 pub(crate) fn run_over<D: Notices>(
-    alloc: Global,
+    host: Host,
     words: &[Text],
     source: &mut MemorySource,
     (most, fails): (usize, usize),
     desk: &mut D,
 ) -> Result<(RunEnd, Text), OutOfMemory> {
-    let mut sink = sink_of(alloc, most, fails)?;
-    let end = run_with(alloc, words, source, &mut sink, desk);
-    let written = Text::from_bytes(alloc, sink.taken());
+    let mut sink = sink_of(host.alloc, most, fails)?;
+    let end = run_with(host, words, source, &mut sink, desk);
+    let written = Text::from_bytes(host.alloc, sink.taken());
     drop(sink);
     Ok((end, written?))
 }
 
 /// The same over an empty desk.
 pub(crate) fn run_alone(
-    alloc: Global,
+    host: Host,
     words: &[Text],
     source: &mut MemorySource,
     sink: (usize, usize),
 ) -> Result<(RunEnd, Text), OutOfMemory> {
-    let mut desk = Desk::new(alloc);
-    let ran = run_over(alloc, words, source, sink, &mut desk);
+    let mut desk = Desk::new(host.alloc);
+    let ran = run_over(host, words, source, sink, &mut desk);
     drop(desk);
     ran
 }
 
 // How a run ends over a source and a sink that take so many bytes a call and fail at one call each, and what was written.
 pub(crate) fn run(
-    alloc: Global,
+    host: Host,
     script: &[u8],
     most: (usize, usize),
     source_fails: usize,
     sink_fails: usize,
 ) -> Result<(RunEnd, Text), OutOfMemory> {
-    let mut source = source_of(alloc, script, most.0, source_fails)?;
-    let ran = run_alone(alloc, &[], &mut source, (most.1, sink_fails));
+    let mut source = source_of(host.alloc, script, most.0, source_fails)?;
+    let ran = run_alone(host, &[], &mut source, (most.1, sink_fails));
     drop(source);
     ran
 }
@@ -85,14 +100,14 @@ pub(crate) fn run(
 /// A run over such a source and such a sink, which fail at these calls, ends like this, with these replies.
 pub(crate) fn assert_run(
     rt: &impl Abort,
-    alloc: Global,
+    host: Host,
     script: &[u8],
     most: (usize, usize),
     fails: (usize, usize),
     end: RunEnd,
     replies: &[u8],
 ) -> Result<(), OutOfMemory> {
-    let (ended, written) = run(alloc, script, most, fails.0, fails.1)?;
+    let (ended, written) = run(host, script, most, fails.0, fails.1)?;
     assert!(rt; ended == end);
     assert_eq!(rt; written.bytes(), replies);
     Ok(())
@@ -100,7 +115,7 @@ pub(crate) fn assert_run(
 
 // Runs a script with counters of its own.
 fn run_counted<F: Ledger, E: Ledger, T: Ledger, D: Notices>(
-    alloc: Global,
+    host: Host,
     words: &[Text],
     source: &mut MemorySource,
     sink: &mut MemorySink,
@@ -119,24 +134,24 @@ fn run_counted<F: Ledger, E: Ledger, T: Ledger, D: Notices>(
     requires touch_parts { touch.parts ≡ T.parts }
     requires touch_one { touch.parts ≡ 1 }
 {
-    let mut tops = Steps::<F>::new(tops);
-    let mut entry = Steps::<E>::new(entry);
-    let mut touch = Steps::<T>::new(touch);
+    let mut tops = Steps::<F>::new(host.process, tops);
+    let mut entry = Steps::<E>::new(host.process, entry);
+    let mut touch = Steps::<T>::new(host.process, touch);
     run_pool(
-        alloc, words, source, sink, desk, &mut tops, &mut entry, &mut touch,
+        host.alloc, words, source, sink, desk, &mut tops, &mut entry, &mut touch,
     )
 }
 
 /// Runs a script with a desk, and counters that nothing reads.
 pub(crate) fn run_with<D: Notices>(
-    alloc: Global,
+    host: Host,
     words: &[Text],
     source: &mut MemorySource,
     sink: &mut MemorySink,
     desk: &mut D,
 ) -> RunEnd {
     run_counted::<Brand, Brand, Brand, _>(
-        alloc,
+        host,
         words,
         source,
         sink,
@@ -159,7 +174,7 @@ fn each_read_may_fail(rt: HostRuntime) -> Result<(), Fail> {
         let end = RunEnd::ReadFault;
         assert_run(
             &rt,
-            rt.alloc(),
+            host_of(&rt),
             THREE,
             (7, 4096),
             (reads + 1, 0),
@@ -177,7 +192,7 @@ fn each_write_may_fail(rt: HostRuntime) -> Result<(), Fail> {
         let end = RunEnd::WriteFault;
         assert_run(
             &rt,
-            rt.alloc(),
+            host_of(&rt),
             THREE,
             (4096, 1),
             (0, bytes + 1),
@@ -191,7 +206,7 @@ fn each_write_may_fail(rt: HostRuntime) -> Result<(), Fail> {
 #[test]
 fn nothing_is_read_behind_the_end(rt: HostRuntime) -> Result<(), Fail> {
     let end = RunEnd::Done { refused: 0 };
-    assert_run(&rt, rt.alloc(), THREE, (7, 4096), (5, 0), end, REPLIES)?;
+    assert_run(&rt, host_of(&rt), THREE, (7, 4096), (5, 0), end, REPLIES)?;
     Ok(())
 }
 
@@ -210,7 +225,7 @@ fn a_read_offers_room_for_4096_bytes(rt: HostRuntime) -> Result<(), Fail> {
     let script = long_and_short(rt.alloc())?;
     assert_run(
         &rt,
-        rt.alloc(),
+        host_of(&rt),
         script.bytes(),
         (9999, 4096),
         (2, 0),
@@ -222,23 +237,23 @@ fn a_read_offers_room_for_4096_bytes(rt: HostRuntime) -> Result<(), Fail> {
 
 #[test]
 fn a_reply_is_offered_before_the_next_read(rt: HostRuntime) -> Result<(), Fail> {
-    let (end, _) = run(rt.alloc(), THREE, (7, 4096), 2, 1)?;
+    let (end, _) = run(host_of(&rt), THREE, (7, 4096), 2, 1)?;
     assert!(rt; end == RunEnd::WriteFault);
     Ok(())
 }
 
 // How a run of a script ends where it is given this word, and what was written.
-fn run_with_word(alloc: Global, word: &[u8]) -> Result<(RunEnd, Text), OutOfMemory> {
-    let words = texts(alloc, &[word])?;
-    let mut source = source_of(alloc, b"eval 1", 4096, 0)?;
-    let ran = run_alone(alloc, &words, &mut source, (4096, 0));
+fn run_with_word(host: Host, word: &[u8]) -> Result<(RunEnd, Text), OutOfMemory> {
+    let words = texts(host.alloc, &[word])?;
+    let mut source = source_of(host.alloc, b"eval 1", 4096, 0)?;
+    let ran = run_alone(host, &words, &mut source, (4096, 0));
     drop(source);
     ran
 }
 
 #[test]
 fn any_word_is_wrong(rt: HostRuntime) -> Result<(), Fail> {
-    let (end, written) = run_with_word(rt.alloc(), b"--mail")?;
+    let (end, written) = run_with_word(host_of(&rt), b"--mail")?;
     assert!(rt; end == RunEnd::BadWords);
     assert!(rt; written.bytes().is_empty());
     Ok(())

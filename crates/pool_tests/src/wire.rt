@@ -1,36 +1,35 @@
 // Schedules of the claiming protocol with their replies, over sources and sinks in memory that are cut and fail.
 use crate::mail::texts;
-use crate::runs::{run_alone, source_of};
+use crate::runs::{Host, host_of, run_alone, source_of};
 use pool_engine::RunEnd;
 use pool_io::MemorySource;
 use pool_text::{OutOfMemory, Text};
-use std::alloc::Global;
 use std::process::Abort;
 use std::test::Fail;
 
 // How a run of one resource and two customers ends over a source and a sink that take so many bytes a call and fail at one
 // call each, and what was written.
 fn run(
-    alloc: Global,
+    host: Host,
     schedule: &[u8],
     most: (usize, usize),
     source_fails: usize,
     sink_fails: usize,
 ) -> Result<(RunEnd, Text), OutOfMemory> {
-    let mut source = source_of(alloc, schedule, most.0, source_fails)?;
-    let ran = run_over(alloc, &mut source, (most.1, sink_fails));
+    let mut source = source_of(host.alloc, schedule, most.0, source_fails)?;
+    let ran = run_over(host, &mut source, (most.1, sink_fails));
     drop(source);
     ran
 }
 
 // The same over a sink that takes so many bytes a call and fails at one call.
 fn run_over(
-    alloc: Global,
+    host: Host,
     source: &mut MemorySource,
     sink: (usize, usize),
 ) -> Result<(RunEnd, Text), OutOfMemory> {
-    let words = texts(alloc, &[b"--wire", b"1", b"2"])?;
-    let ran = run_alone(alloc, &words, source, sink);
+    let words = texts(host.alloc, &[b"--wire", b"1", b"2"])?;
+    let ran = run_alone(host, &words, source, sink);
     drop(words);
     ran
 }
@@ -38,14 +37,14 @@ fn run_over(
 // A run over such a source and such a sink, which fail at these calls, ends like this, with these replies.
 fn assert_run(
     rt: &impl Abort,
-    alloc: Global,
+    host: Host,
     schedule: &[u8],
     most: (usize, usize),
     fails: (usize, usize),
     end: RunEnd,
     replies: &[u8],
 ) -> Result<(), OutOfMemory> {
-    let (ended, written) = run(alloc, schedule, most, fails.0, fails.1)?;
+    let (ended, written) = run(host, schedule, most, fails.0, fails.1)?;
     assert!(rt; ended == end);
     assert_eq!(rt; written.bytes(), replies);
     Ok(())
@@ -54,14 +53,14 @@ fn assert_run(
 // A schedule is answered like this, with so many refusals, however its bytes are cut.
 fn assert_answered(
     rt: &impl Abort,
-    alloc: Global,
+    host: Host,
     schedule: &[u8],
     refused: u64,
     replies: &[u8],
 ) -> Result<(), OutOfMemory> {
     let end = RunEnd::Done { refused };
-    assert_run(rt, alloc, schedule, (4096, 4096), (0, 0), end, replies)?;
-    assert_run(rt, alloc, schedule, (1, 1), (0, 0), end, replies)
+    assert_run(rt, host, schedule, (4096, 4096), (0, 0), end, replies)?;
+    assert_run(rt, host, schedule, (1, 1), (0, 0), end, replies)
 }
 
 /// Schedules with how many lines are refused, and the replies.
@@ -93,7 +92,7 @@ const SCHEDULES: [(&[u8], u64, &[u8]); 6] = [
 #[test]
 fn lines_are_answered(rt: HostRuntime) -> Result<(), Fail> {
     for (schedule, refused, replies) in SCHEDULES {
-        assert_answered(&rt, rt.alloc(), schedule, refused, replies)?;
+        assert_answered(&rt, host_of(&rt), schedule, refused, replies)?;
     }
     Ok(())
 }
@@ -114,7 +113,7 @@ fn each_read_may_fail(rt: HostRuntime) -> Result<(), Fail> {
         let end = RunEnd::ReadFault;
         assert_run(
             &rt,
-            rt.alloc(),
+            host_of(&rt),
             THREE,
             (8, 4096),
             (lines + 1, 0),
@@ -132,7 +131,7 @@ fn each_write_may_fail(rt: HostRuntime) -> Result<(), Fail> {
         let end = RunEnd::WriteFault;
         assert_run(
             &rt,
-            rt.alloc(),
+            host_of(&rt),
             THREE,
             (4096, 1),
             (0, bytes + 1),
@@ -145,7 +144,7 @@ fn each_write_may_fail(rt: HostRuntime) -> Result<(), Fail> {
 
 #[test]
 fn a_reply_is_offered_before_the_next_read(rt: HostRuntime) -> Result<(), Fail> {
-    let (end, _) = run(rt.alloc(), THREE, (8, 4096), 2, 1)?;
+    let (end, _) = run(host_of(&rt), THREE, (8, 4096), 2, 1)?;
     assert!(rt; end == RunEnd::WriteFault);
     Ok(())
 }

@@ -1,6 +1,6 @@
 // Workloads, and the words that ask for them.
 use crate::mail::{listen, texts};
-use crate::runs::{run_over, source_of};
+use crate::runs::{Host, host_of, run_over, source_of};
 use notice_desk::{Desk, Notices};
 use pool_engine::*;
 use pool_io::{MemorySource, Source};
@@ -15,27 +15,27 @@ const FOUR_SUMMARY: &[u8] = b"commands 10\nrefused 0\nhits 1\noffers 1\nbytes 19
 
 // How a workload ends over a sink that takes so many bytes a call and fails at one call, and what was written.
 fn run(
-    alloc: Global,
+    host: Host,
     words: &[&[u8]],
     most: usize,
     fails: usize,
 ) -> Result<(RunEnd, Text), OutOfMemory> {
-    let words = texts(alloc, words)?;
-    let mut desk = Desk::new(alloc);
-    let ran = run_to(alloc, &words, (most, fails), &mut desk);
+    let words = texts(host.alloc, words)?;
+    let mut desk = Desk::new(host.alloc);
+    let ran = run_to(host, &words, (most, fails), &mut desk);
     drop(desk);
     ran
 }
 
 // The same on a desk, over a source that fails at its first call.
 fn run_to(
-    alloc: Global,
+    host: Host,
     words: &[Text],
     sink: (usize, usize),
     desk: &mut Desk,
 ) -> Result<(RunEnd, Text), OutOfMemory> {
-    let mut source = source_of(alloc, b"", 9, 1)?;
-    let ran = run_over(alloc, words, &mut source, sink, desk);
+    let mut source = source_of(host.alloc, b"", 9, 1)?;
+    let ran = run_over(host, words, &mut source, sink, desk);
     drop(source);
     ran
 }
@@ -43,13 +43,13 @@ fn run_to(
 // Such a run ends like this, with these bytes.
 fn assert_run(
     rt: &impl Abort,
-    alloc: Global,
+    host: Host,
     words: &[&[u8]],
     (most, fails): (usize, usize),
     end: RunEnd,
     wanted: &[u8],
 ) -> Result<(), OutOfMemory> {
-    let (ended, written) = run(alloc, words, most, fails)?;
+    let (ended, written) = run(host, words, most, fails)?;
     assert!(rt; ended == end);
     assert_eq!(rt; written.bytes(), wanted);
     Ok(())
@@ -58,17 +58,24 @@ fn assert_run(
 #[test]
 fn a_summary_is_written(rt: HostRuntime) -> Result<(), Fail> {
     let end = RunEnd::Done { refused: 0 };
-    assert_run(&rt, rt.alloc(), FOUR, (1 << 20, 0), end, FOUR_SUMMARY)?;
+    assert_run(&rt, host_of(&rt), FOUR, (1 << 20, 0), end, FOUR_SUMMARY)?;
     let wanted = b"commands 16\nrefused 0\nhits 2\noffers 4\nbytes 370\n";
-    assert_run(&rt, rt.alloc(), &[b"--generate", b"8"], (1, 0), end, wanted)?;
+    assert_run(
+        &rt,
+        host_of(&rt),
+        &[b"--generate", b"8"],
+        (1, 0),
+        end,
+        wanted,
+    )?;
     Ok(())
 }
 
 // How a workload ends over a source.
-fn run_from(alloc: Global, source: &mut MemorySource) -> Result<RunEnd, OutOfMemory> {
-    let words = texts(alloc, FOUR)?;
-    let mut desk = Desk::new(alloc);
-    let ran = run_over(alloc, &words, source, (99, 0), &mut desk);
+fn run_from(host: Host, source: &mut MemorySource) -> Result<RunEnd, OutOfMemory> {
+    let words = texts(host.alloc, FOUR)?;
+    let mut desk = Desk::new(host.alloc);
+    let ran = run_over(host, &words, source, (99, 0), &mut desk);
     drop(desk);
     let (end, _) = ran?;
     Ok(end)
@@ -77,7 +84,7 @@ fn run_from(alloc: Global, source: &mut MemorySource) -> Result<RunEnd, OutOfMem
 #[test]
 fn the_source_is_left_alone(rt: HostRuntime) -> Result<(), Fail> {
     let mut source = source_of(rt.alloc(), b"eval 1", 99, 1)?;
-    let end = run_from(rt.alloc(), &mut source)?;
+    let end = run_from(host_of(&rt), &mut source)?;
     assert!(rt; end.status() == 0);
     // The first call fails still, and the second one reads all.
     let mut buffer = [0; 99];
@@ -92,7 +99,7 @@ fn each_write_may_fail(rt: HostRuntime) -> Result<(), Fail> {
         let wanted = &FOUR_SUMMARY[..bytes];
         assert_run(
             &rt,
-            rt.alloc(),
+            host_of(&rt),
             FOUR,
             (1, bytes + 1),
             RunEnd::WriteFault,
@@ -103,9 +110,9 @@ fn each_write_may_fail(rt: HostRuntime) -> Result<(), Fail> {
 }
 
 // How a workload to which names listen ends, and what was written.
-fn run_heard(alloc: Global, desk: &mut Desk) -> Result<(RunEnd, Text), OutOfMemory> {
-    let words = texts(alloc, &[b"--mail", b"bob=x", b"--generate", b"4"])?;
-    run_to(alloc, &words, (99, 0), desk)
+fn run_heard(host: Host, desk: &mut Desk) -> Result<(RunEnd, Text), OutOfMemory> {
+    let words = texts(host.alloc, &[b"--mail", b"bob=x", b"--generate", b"4"])?;
+    run_to(host, &words, (99, 0), desk)
 }
 
 #[test]
@@ -113,7 +120,7 @@ fn names_listen_to_a_workload(rt: HostRuntime) -> Result<(), Fail> {
     let mut desk = Desk::new(rt.alloc());
     listen(rt.alloc(), &mut desk, b"alice", 0)?;
     listen(rt.alloc(), &mut desk, b"bob", 0)?;
-    let (end, written) = run_heard(rt.alloc(), &mut desk)?;
+    let (end, written) = run_heard(host_of(&rt), &mut desk)?;
     assert!(rt; end == RunEnd::Done { refused: 0 });
     assert!(rt; written.bytes() == FOUR_SUMMARY);
     assert!(rt; desk.shown(b"alice") == Some(b"".as_slice()));

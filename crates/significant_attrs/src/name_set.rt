@@ -1,18 +1,17 @@
 // A set of names without the difference of capital and small letters.
-ghost use Rattle.std.specs.Prelude.{◌≡◌, ◌||◌, ◌++◌, ◌∷◌, [], ℕ, List, false, map, bytes_eq, IfOk, OnErr, OnOk};
-ghost use Rattle.std.specs.List.{list_any};
+ghost use Rattle.std.specs.Prelude.{◌≡◌, ◌||◌, ◌++◌, ◌∷◌, [], ℕ, List, map, IfOk, OnErr, OnOk};
 ghost use Rattle.pool_text.specs.Folding.{folded};
 ghost use Rattle.ad_tree.specs.Names.{has_name, same_name};
 
-use indexmap::IndexSet;
 use pool_text::{OutOfMemory, fold};
 use std::alloc::Global;
+use std::collections::BTreeSet;
 
-/// Names, each once and with its letters small, so that a name is found by its hash.
+/// Names, each once and with its letters small. They stand in an order, so that no choice of names makes a look-up slow.
 #[derive(Drop)]
 pub(crate) struct NameSet {
     alloc: Global,
-    names: IndexSet<Vec<u8>>,
+    names: BTreeSet<Vec<u8>>,
     ghost are_folded: { map folded (map (λ key. key.items) names.keys) ≡ map (λ key. key.items) names.keys },
 }
 
@@ -22,7 +21,7 @@ impl NameSet {
     {
         NameSet {
             alloc,
-            names: IndexSet::new(alloc),
+            names: BTreeSet::new(alloc),
         }
     }
 
@@ -47,10 +46,13 @@ impl NameSet {
     }
 }
 
-// Puts a new name last.
-fn insert(alloc: Global, names: &mut IndexSet<Vec<u8>>, name: &[u8]) -> Result<(), OutOfMemory>
-    requires { list_any (λ key. bytes_eq name.now key.items) names.old.keys ≡ false }
-    ensures ok { OnOk result (map (λ key. key.items) names.new.keys ≡ map (λ key. key.items) names.old.keys ++ name.now ∷ []) }
+// Adds a name with small letters: it counts as one that is put last.
+fn insert(alloc: Global, names: &mut BTreeSet<Vec<u8>>, name: &[u8]) -> Result<(), OutOfMemory>
+    requires { folded name.now ≡ name.now }
+    ensures has { OnOk result ((x : List ℕ) → has_name x (map (λ key. key.items) names.new.keys)
+        ≡ has_name x (map (λ key. key.items) names.old.keys ++ name.now ∷ [])) }
+    ensures folded { map folded (map (λ key. key.items) names.old.keys) ≡ map (λ key. key.items) names.old.keys
+        → map folded (map (λ key. key.items) names.new.keys) ≡ map (λ key. key.items) names.new.keys }
     ensures err { OnErr result (names.new.keys ≡ names.old.keys) }
 {
     let key = Vec::from_slice(alloc, name)?;

@@ -1,4 +1,6 @@
 use Rattle.std.proofs.Common.{◌≡◌, ◌≤◌, ◌+◌, ◌-◌, ◌*◌, IfOk, ap, arith, get_or, length, refl, subst, sym, ◌∙◌}
+use Rattle.std.proofs.Common.{Option}
+use Rattle.std.specs.Option.{option_map_or}
 use Rattle.std.proofs.lemmas.List.{length-take-le}
 use Rattle.pool_text.specs.declared.language.AdPlace.{AdPlace}
 use Rattle.ad_tree.specs.Ad.{ad_frames}
@@ -7,7 +9,8 @@ use Rattle.ad_eval.specs.Dock.{is_docked}
 use Rattle.conjunct_plan.specs.Tests.{labels_of}
 use Rattle.eval_scope.specs.Shown.{world_of}
 use Rattle.eval_scope.specs.World.{PlainWorld, attribute_count, request_side}
-use Rattle.dock_match.specs.Docks.{is_last_decided}
+use Rattle.dock_match.specs.declared.sides.OpenSides.{OpenSides}
+use Rattle.dock_match.specs.Docks.{evaluations_of_last, evaluations_of_sides, is_last_decided}
 use Rattle.dock_match.specs.Pool.{slots_world}
 use Rattle.dock_match.proofs.DockingLemmas.{ad-looked, few-slots, frame-there, most-undecided, none-docked, pair-decided, pair-open, pair-world, room-for-last}
 use Rattle.dock_match.proofs.MetLemmas.{none-undecided, some-undecided}
@@ -133,3 +136,22 @@ returns-clause-ratio g c small ads =
     pair-world c.args.moment stock request slots some last refl (world_of c.slots_world-before.result) (world_of c.with-world.result)
     (ad_frames c.look-ad.result.now) c.slots_world-before.ensures.world looked c.with-world.ensures in
     c.dock.ensures.ratio (slots-small c.args.moment stock request slots (world_of c.with-world.result) world small ads)
+
+pub returns-clause-counted : goal.returns-clause-counted
+returns-clause-counted g c =
+    let stock = stock_of c.args.store.now in
+    let request = c.args.request.now in
+    let slots = c.args.slots.now in
+    let last = length slots - 1 in
+    let some = c.requires.some in
+    let looked = ad-looked stock (get_or slots last 0) (ad_frames c.look-ad.result.now) (c.requires.stored last 0 (omega (arith, some))) c.look-ad.ensures.ad in
+    let world =
+    pair-world c.args.moment stock request slots some last refl (world_of c.slots_world-before.result) (world_of c.with-world.result)
+    (ad_frames c.look-ad.result.now) c.slots_world-before.ensures.world looked c.with-world.ensures in
+    let left =
+    pair-open c.args.moment stock request slots some last refl (world_of c.slots_world-before.result) (world_of c.with-world.result)
+    (ad_frames c.look-ad.result.now) c.slots_world-before.ensures.world looked c.with-world.ensures c.request_place.result c.request_place.ensures in
+    let w = world_of c.with-world.result in
+    subst (λ (w : PlainWorld). c.dock.new.tops ≤ c.args.tops.now + evaluations_of_last w) world
+    (subst (λ (o : Option OpenSides). c.dock.new.tops ≤ c.args.tops.now + option_map_or (evaluations_of_sides w) o 0)
+    (sym (sym left ∙ sym c.open_sides.ensures ∙ c.in-Some.is)) c.dock.ensures.counted)

@@ -5,7 +5,7 @@ use Rattle.script_run.specs.Effects.{effects}
 use Rattle.run_rules.specs.Events.{events_of}
 use Rattle.script_run.specs.Answering.{Stopped, Took}
 use Rattle.pool_state.specs.Heard.{Heard, heard, opened}
-use Rattle.pool_state.specs.State.{State}
+use Rattle.pool_books.specs.State.{State}
 use Rattle.pool_engine.specs.Workloads.{IsSummaryOf, silent, workload_commands}
 use Rattle.pool_engine.proofs.SummingLemmas.{always_err}
 use Rattle.script_run.proofs.TookLemmas.{Stopped-none}

@@ -1,10 +1,10 @@
 use Rattle.std.proofs.Common.{◌≡◌, List, ℕ, Some, option_map, slice_get, ◌∙◌, ap}
 use Rattle.ad_store.specs.Store.{stock_of}
 use Rattle.claim_table.specs.Table.{jobs_of}
-use Rattle.pool_state.specs.Books.{queue_of}
-use Rattle.pool_state.specs.ClaimAnswers.{names_given}
+use Rattle.pool_books.specs.Books.{queue_of}
+use Rattle.pool_books.specs.ClaimAnswers.{names_given}
+use Rattle.pool_books.proofs.HitLemmas.{if_ok}
 use Rattle.pool_state.specs.Notices.{about, about_job}
-use Rattle.pool_state.proofs.HitLemmas.{if_ok}
 use Rattle.pool_state.proofs.LossLemmas.{about-at}
 use Rattle.pool_state.proofs.losses.about_job.Goals as goal
 

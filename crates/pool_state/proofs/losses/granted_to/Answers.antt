@@ -2,12 +2,11 @@ use Rattle.std.proofs.Common.{◌≡◌, ◌++◌, ◌∷◌, [], ℕ, List, All
 use Rattle.std.specs.Option.{option_map_or}
 use Rattle.ad_store.specs.Store.{stock_of}
 use Rattle.claim_table.specs.Table.{jobs_of}
-use Rattle.pool_state.specs.declared.posting.Notice.{Notice}
-use Rattle.pool_state.specs.Books.{queue_of}
-use Rattle.pool_state.specs.Claiming.{job_named}
+use Rattle.pool_books.specs.Books.{queue_of, name_in}
+use Rattle.pool_books.specs.Claiming.{job_named}
+use Rattle.pool_books.proofs.ClaimLemmas.{given-held}
 use Rattle.pool_state.specs.Notices.{about_job, granted_to, losses}
-use Rattle.pool_state.specs.Pool.{name_in}
-use Rattle.pool_state.proofs.ClaimLemmas.{given-held}
+use Rattle.pool_state.specs.declared.posting.Notice.{Notice}
 use Rattle.pool_state.proofs.LossLemmas.{given-names, granted-is, named-none, named-some}
 use Rattle.pool_state.proofs.losses.granted_to.Goals as goal
 

@@ -2,9 +2,9 @@ use Rattle.std.proofs.Common.{◌<◌, ◌∷◌, [], All, List, ℕ, length, re
 use Rattle.ad_store.specs.Store.{stock_of}
 use Rattle.claim_table.specs.Claims.{once}
 use Rattle.claim_table.specs.Table.{jobs_of}
-use Rattle.pool_state.proofs.AdLemmas.{stock-length}
+use Rattle.pool_books.proofs.AdLemmas.{stock-length}
+use Rattle.pool_books.proofs.NameLemmas.{AreBeside}
 use Rattle.pool_state.proofs.LossLemmas.{had-next, within-once}
-use Rattle.pool_state.proofs.NameLemmas.{AreBeside}
 use Rattle.pool_state.proofs.losses.had_at.Goals as goal
 
 pub returns-clause-places : goal.returns-clause-places

@@ -1,9 +1,8 @@
 use Rattle.std.proofs.Common.{◌≡◌, ◌<◌, All, length, map, take}
 use Rattle.ad_store.specs.Store.{stock_of}
 use Rattle.claim_table.specs.Table.{jobs_of}
-use Rattle.pool_state.specs.Books.{queue_of}
+use Rattle.pool_books.specs.Books.{queue_of, name_in}
 use Rattle.pool_state.specs.Notices.{had_by}
-use Rattle.pool_state.specs.Pool.{name_in}
 use Rattle.pool_state.proofs.losses.had_by.Given as goal
 
 abbrev pub invariant-loop-slot : goal.invariant-loop-slot

@@ -4,9 +4,9 @@ use Rattle.std.proofs.lemmas.Option.{slice_get-get_or}
 use Rattle.ad_store.specs.Store.{stock_of}
 use Rattle.claim_table.specs.Claims.{once}
 use Rattle.claim_table.specs.Table.{jobs_of}
-use Rattle.pool_state.proofs.AdLemmas.{stock-length}
+use Rattle.pool_books.proofs.AdLemmas.{stock-length}
+use Rattle.pool_books.proofs.NameLemmas.{AreBeside}
 use Rattle.pool_state.proofs.LossLemmas.{holders-next, within-once}
-use Rattle.pool_state.proofs.NameLemmas.{AreBeside}
 use Rattle.pool_state.proofs.losses.holders.Goals as goal
 
 pub loop-slot-preserved : goal.loop-slot-preserved

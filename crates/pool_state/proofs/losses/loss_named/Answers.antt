@@ -2,7 +2,7 @@ use Rattle.std.proofs.Common.{◌++◌, [], sym, ◌∙◌, ap}
 use Rattle.std.specs.Option.{option_map_or}
 use Rattle.ad_store.specs.Store.{stock_of}
 use Rattle.claim_table.specs.Table.{jobs_of}
-use Rattle.pool_state.specs.Books.{queue_of}
+use Rattle.pool_books.specs.Books.{queue_of}
 use Rattle.pool_state.specs.Notices.{loss, loss_at}
 use Rattle.pool_state.proofs.LossLemmas.{named-none, named-some}
 use Rattle.pool_state.proofs.losses.loss_named.Goals as goal

@@ -1,5 +1,5 @@
 use Rattle.std.proofs.Common.{◌≡◌, take}
-use Rattle.pool_state.specs.Books.{queue_of}
+use Rattle.pool_books.specs.Books.{queue_of}
 use Rattle.pool_state.specs.Notices.{losses}
 use Rattle.pool_state.proofs.losses.losses.Given as goal
 

@@ -1,11 +1,10 @@
 use Rattle.std.proofs.Common.{ℕ, All, Contains, List, map, sym, ◌∙◌, ap, subst}
 use Rattle.ad_store.specs.Store.{stock_of}
-use Rattle.pool_state.specs.Books.{queue_of}
+use Rattle.pool_books.specs.Books.{queue_of, name_in}
+use Rattle.pool_books.proofs.AdLemmas.{stock-length}
+use Rattle.pool_books.proofs.HitLemmas.{if_ok}
 use Rattle.pool_state.specs.Notices.{had_by, losses}
-use Rattle.pool_state.specs.Pool.{name_in}
-use Rattle.pool_state.proofs.AdLemmas.{stock-length}
 use Rattle.pool_state.proofs.ExpiryLemmas.{expired-named}
-use Rattle.pool_state.proofs.HitLemmas.{if_ok}
 use Rattle.pool_state.proofs.losses.losses_at.Goals as goal
 
 pub returns : goal.returns

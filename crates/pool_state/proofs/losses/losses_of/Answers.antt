@@ -1,15 +1,14 @@
 use Rattle.std.proofs.Common.{◌≡◌, ◌∷◌, [], cond, is_some, List, ℕ, sym, ◌∙◌, ap}
 use Rattle.ad_store.specs.Stock.{Stock, is_named}
 use Rattle.ad_store.specs.Store.{stock_of}
-use Rattle.pool_state.specs.declared.posting.Notice.{Notice}
-use Rattle.pool_state.specs.Books.{queue_of}
 use Rattle.pool_script.specs.declared.command.Command.TheVariants.{Withdraw}
-use Rattle.pool_state.specs.Indexed.{ads_of}
+use Rattle.pool_books.specs.Books.{queue_of, name_in}
+use Rattle.pool_books.specs.Indexed.{ads_of}
+use Rattle.pool_books.proofs.AdLemmas.{has_at, named, slot_beside-found, slot_beside-none, stock-length}
+use Rattle.pool_books.proofs.HitLemmas.{if_ok}
+use Rattle.pool_books.proofs.JobLemmas.{found-any}
 use Rattle.pool_state.specs.Notices.{granted, had_by, losses}
-use Rattle.pool_state.specs.Pool.{name_in}
-use Rattle.pool_state.proofs.AdLemmas.{has_at, named, slot_beside-found, slot_beside-none, stock-length}
-use Rattle.pool_state.proofs.JobLemmas.{found-any}
-use Rattle.pool_state.proofs.HitLemmas.{if_ok}
+use Rattle.pool_state.specs.declared.posting.Notice.{Notice}
 use Rattle.pool_state.proofs.LossLemmas.{name-there}
 use Rattle.pool_state.proofs.losses.losses_of.Goals as goal
 

@@ -2,11 +2,12 @@ use Rattle.std.proofs.Common.{◌≡◌, ◌<◌, ◌++◌, ◌∷◌, [], List,
 use Rattle.std.proofs.lemmas.List.{append-nil}
 use Rattle.ad_store.specs.Store.{stock_of}
 use Rattle.claim_table.specs.Table.{jobs_of}
-use Rattle.pool_state.specs.declared.posting.Notice.{Notice}
-use Rattle.pool_state.specs.Books.{queue_of}
-use Rattle.pool_state.specs.ClaimAnswers.{names_given}
+use Rattle.pool_books.specs.Books.{queue_of}
+use Rattle.pool_books.specs.ClaimAnswers.{names_given}
+use Rattle.pool_books.proofs.LossLemmas.{on_ok}
 use Rattle.pool_state.specs.Notices.{loss_at}
-use Rattle.pool_state.proofs.LossLemmas.{loss-none, loss-some, on_ok}
+use Rattle.pool_state.specs.declared.posting.Notice.{Notice}
+use Rattle.pool_state.proofs.LossLemmas.{loss-none, loss-some}
 use Rattle.pool_state.proofs.losses.tell_loss.Goals as goal
 
 pub returns-then-len-eq0 : goal.returns-then-len-eq0

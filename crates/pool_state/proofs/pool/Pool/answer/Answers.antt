@@ -1,11 +1,12 @@
 use Rattle.std.proofs.Common.{ℕ, List, length, sym, ◌∙◌, ap}
 use Rattle.ad_parser.specs.Outcomes.{ad_outcome}
 use Rattle.claim_table.specs.Settings.{settings_of}
+use Rattle.pool_books.specs.State.{State}
+use Rattle.pool_books.proofs.HitLemmas.{if_ok}
+use Rattle.pool_commands.specs.Ads.{advertise}
 use Rattle.pool_state.specs.Pool.{state_of}
-use Rattle.pool_state.specs.State.{State}
-use Rattle.pool_state.specs.Step.{advertise, step}
+use Rattle.pool_state.specs.Step.{step}
 use Rattle.pool_state.proofs.CommandLemmas.{step-Advertise, step-Withdraw}
-use Rattle.pool_state.proofs.HitLemmas.{if_ok}
 use Rattle.pool_state.proofs.pool.Pool.answer.Goals as goal
 
 pub returns-in-Advertise-clause-step : goal.returns-in-Advertise-clause-step

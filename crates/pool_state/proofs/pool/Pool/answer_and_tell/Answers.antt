@@ -3,13 +3,13 @@ use Rattle.std.specs.List.{AllZip}
 use Rattle.std.proofs.lemmas.Result.{on_ok_weaker}
 use Rattle.pool_replies.specs.Replies.{is_printable}
 use Rattle.pool_replies.specs.declared.reply.Reply.{Reply}
+use Rattle.pool_books.specs.State.{State}
+use Rattle.pool_books.proofs.HitLemmas.{if_ok}
 use Rattle.pool_state.specs.Notices.{notices}
 use Rattle.pool_state.specs.Pool.{state_of}
 use Rattle.pool_state.specs.Posting.{ArePosted, RowAfter, desk_of, posts_of_all}
-use Rattle.pool_state.specs.State.{State}
 use Rattle.pool_state.specs.declared.posting.Notice.{Notice}
 use Rattle.pool_state.proofs.HeardLemmas.{notices-by}
-use Rattle.pool_state.proofs.HitLemmas.{if_ok}
 use Rattle.pool_state.proofs.PostingLemmas.{on_ok-any, posted-empty}
 use Rattle.pool_state.proofs.pool.Pool.answer_and_tell.Goals as goal
 

@@ -1,12 +1,14 @@
 use Rattle.std.proofs.Common.{◌≡◌, ◌≤◌, ◌+◌, ℕ, List, IfOk, length, sym, ◌∙◌, ap, subst}
 use Rattle.ad_parser.specs.Outcomes.{ad_outcome}
 use Rattle.claim_table.specs.Settings.{settings_of}
-use Rattle.pool_state.specs.Pool.{state_of, state_with}
-use Rattle.pool_state.specs.State.{State}
-use Rattle.pool_state.specs.Claiming.{undecided_for_claim}
-use Rattle.pool_state.specs.Step.{allowance, looks, step, submit}
+use Rattle.pool_books.specs.Books.{state_with}
+use Rattle.pool_books.specs.Claiming.{undecided_for_claim}
+use Rattle.pool_books.specs.State.{State}
+use Rattle.pool_books.proofs.HitLemmas.{if_ok}
+use Rattle.pool_commands.specs.Jobs.{submit}
+use Rattle.pool_state.specs.Pool.{state_of}
+use Rattle.pool_state.specs.Step.{allowance, looks, step}
 use Rattle.pool_state.proofs.CommandLemmas.{allowance-Claim, less-allowed, looks-Claim, step-Claim, step-Priority, step-Release, step-Remove, step-Submit}
-use Rattle.pool_state.proofs.HitLemmas.{if_ok}
 use Rattle.pool_state.proofs.pool.Pool.answer_for_jobs.Goals as goal
 
 pub returns-in-Submit-clause-step : goal.returns-in-Submit-clause-step

@@ -1,6 +1,6 @@
 use Rattle.std.proofs.Common.{arith}
-use Rattle.pool_state.specs.Books.{queue_of}
-use Rattle.pool_state.specs.Indexed.{ads_of}
+use Rattle.pool_books.specs.Books.{queue_of}
+use Rattle.pool_books.specs.Indexed.{ads_of}
 use Rattle.pool_state.specs.Pool.{state_of}
 use Rattle.pool_state.proofs.StepLemmas.{clock-back, clock-moves}
 use Rattle.pool_state.proofs.pool.Pool.clock.Goals as goal

@@ -1,0 +1,13 @@
+pub mod Apart
+pub mod Books
+pub mod ClaimAnswers
+pub mod Claiming
+pub mod Expiry
+pub mod Indexed
+pub mod Negotiation
+pub mod Ports
+pub mod Queue
+pub mod Rows
+pub mod State
+pub mod Stocks
+pub mod Stored

@@ -1,0 +1,146 @@
+// The ads of a pool with the index of their literals.
+ghost use Rattle.std.specs.Prelude.{◌≡◌, ◌≢◌, ◌+◌, ◌≤◌, [], true, false, not, IfErr, IfOk, None, OnErr, OnOk, Some};
+ghost use Rattle.ad_store.specs.Answers.{is_added, slots_put};
+ghost use Rattle.ad_store.specs.Stock.{has, lack, placed, slots_without, without};
+ghost use Rattle.ad_store.specs.Store.{stock_of};
+ghost use Rattle.ad_tree.specs.Ad.{ad_frames};
+ghost use Rattle.ad_tree.specs.Small.{IsSmall};
+ghost use Rattle.literal_index.specs.Shown.{IsIndex, IsKept};
+ghost use Rattle.ad_candidates.specs.Rows.{rows_of};
+ghost use Rattle.dock_match.specs.Small.{AreSmallAds};
+ghost use Rattle.pool_books.specs.Stocks.{stock_without};
+
+use ad_store::{NoName, Put, PutFault, Store};
+use ad_tree::Ad;
+use literal_index::Index;
+use pool_steps::Steps;
+use pool_text::OutOfMemory;
+use std::alloc::Global;
+use std::sync::ledger::Ledger;
+
+/// The ads that are held, and the index of them, each under its slot. No ad has more than 1,024 attributes.
+#[derive(Drop)]
+pub struct IndexedStore {
+    pub store: Store,
+    pub index: Index,
+    ghost indexed: { ∥ IsKept index (rows_of (stock_of store)) ∥₁ },
+    ghost small: { AreSmallAds (stock_of store).ads },
+}
+
+impl IndexedStore {
+    ghost use Rattle.ad_store.specs.Stock.{Advert};
+    ghost use Rattle.pool_books.specs.Indexed.{ads_of};
+
+    pub fn new(alloc: Global) -> IndexedStore
+        ensures { ads_of result ≡ [] }
+    {
+        IndexedStore {
+            store: Store::new(alloc),
+            index: Index::new(alloc),
+        }
+    }
+
+    /// Puts an ad under a name, as the store does, and counts at most two in `touch`. Where it isn't put, the ads are as they
+    /// were, unless memory was wanting: then the ad of the name may be gone.
+    pub fn put<T: Ledger>(
+        &mut self,
+        name: &[u8],
+        born: u64,
+        lifetime: u64,
+        text_len: u64,
+        ad: Ad,
+        touch: &mut Steps<T>,
+    ) -> Result<Put, PutFault>
+        requires small { IsSmall (ad_frames ad) }
+        ensures ads { OnOk result (ads_of self.new
+            ≡ placed (record { name = name.now; born = born; lifetime = lifetime; size = text_len; ad = ad_frames ad }) (ads_of self.old)) }
+        ensures slots { IfOk result (λ put. (stock_of self.new.store).slots ≡ slots_put put (stock_of self.old.store).slots) }
+        ensures added { IfOk result (λ put. is_added put ≡ not (has name.now (ads_of self.old))) }
+        ensures room { OnOk result (lack name.now text_len (ads_of self.old) ≡ None) }
+        ensures cause { IfErr result (λ fault. fault ≢ PutFault.OutOfMemory
+            → (lack name.now text_len (ads_of self.old) ≡ Some fault) × (stock_of self.new.store ≡ stock_of self.old.store)) }
+        ensures looks { touch.new ≤ touch.old + 2 }
+    {
+        forget(&self.store, &mut self.index, name, touch);
+        let put = self.store.put(name, born, lifetime, text_len, ad);
+        let Ok(()) = remember(&mut self.store, &mut self.index, name, touch) else {
+            return Err(PutFault::OutOfMemory);
+        };
+        put
+    }
+
+    /// Takes note of when the next ad expires, for a moment at which none is left to expire.
+    pub fn note_soonest(&mut self, now: u64)
+        ensures { stock_of self.new.store ≡ stock_of self.old.store }
+    {
+        self.store.note_soonest(now);
+    }
+
+    /// Takes out the ad of a name, as the store does, and counts at most one in `touch`.
+    pub fn withdraw<T: Ledger>(&mut self, name: &[u8], touch: &mut Steps<T>) -> Result<(), NoName>
+        ensures held { OnOk result (has name.now (ads_of self.old) ≡ true) }
+        ensures ads { OnOk result (ads_of self.new ≡ without name.now (ads_of self.old)) }
+        ensures slots { OnOk result ((stock_of self.new.store).slots
+            ≡ slots_without name.now (ads_of self.old) (stock_of self.old.store).slots) }
+        ensures none { OnErr result (has name.now (ads_of self.old) ≡ false) }
+        ensures err { OnErr result (stock_of self.new.store ≡ stock_of self.old.store) }
+        ensures looks { touch.new ≤ touch.old + 1 }
+    {
+        forget(&self.store, &mut self.index, name, touch);
+        self.store.withdraw(name)?;
+        Ok(())
+    }
+
+    /// Closes the gaps in the order of the ads, which stay as they are.
+    pub fn settle_order(&mut self)
+        ensures { stock_of self.new.store ≡ stock_of self.old.store }
+    {
+        self.store.settle_order();
+    }
+
+    /// Makes the order and the index ready for searches. The ads stay as they are, also where memory is wanting.
+    pub fn settle(&mut self) -> Result<(), OutOfMemory>
+        ensures store { stock_of self.new.store ≡ stock_of self.old.store }
+        ensures ok { OnOk result (IsIndex self.new.index (rows_of (stock_of self.new.store))) }
+    {
+        self.store.settle_order();
+        self.index.settle()
+    }
+}
+
+// Takes the ad of a name out of the index, so that the index is that of the other ads.
+fn forget<T: Ledger>(store: &Store, index: &mut Index, name: &[u8], touch: &mut Steps<T>)
+    ensures others { IsKept index.old (rows_of (stock_of store.now))
+        → IsKept index.new (rows_of (stock_without name.now (stock_of store.now))) }
+    ensures looks { touch.new ≤ touch.old + 1 }
+{
+    if let Some(slot) = store.slot_of(name) {
+        index.remove(slot, store.look(slot, touch));
+    }
+}
+
+// Adds the ad of a name to the index of the other ads. Where memory is wanting, the ad is withdrawn.
+fn remember<T: Ledger>(
+    store: &mut Store,
+    index: &mut Index,
+    name: &[u8],
+    touch: &mut Steps<T>,
+) -> Result<(), OutOfMemory>
+    ensures all { OnOk result (IsKept index.old (rows_of (stock_without name.now (stock_of store.old)))
+        → IsKept index.new (rows_of (stock_of store.old))) }
+    ensures same { OnOk result (stock_of store.new ≡ stock_of store.old) }
+    ensures gone { OnErr result (IsKept index.old (rows_of (stock_without name.now (stock_of store.old)))
+        → IsKept index.new (rows_of (stock_of store.new))) }
+    ensures small { AreSmallAds (stock_of store.old).ads → AreSmallAds (stock_of store.new).ads }
+    ensures looks { touch.new ≤ touch.old + 1 }
+{
+    store.slots_are_apart();
+    let Some(slot) = store.slot_of(name) else {
+        return Ok(());
+    };
+    if index.add(slot, store.look(slot, touch)).is_err() {
+        let _ = store.withdraw(name);
+        return Err(OutOfMemory);
+    }
+    Ok(())
+}

@@ -1,0 +1,11 @@
+//! What a pool keeps: its ads with their index, and its jobs with what is offered to them and claimed by them. They change
+//! together, so that whatever a job has is held.
+#![tactic(auto)]
+
+mod books;
+mod indexed;
+mod naming;
+
+pub use books::Books;
+pub use indexed::IndexedStore;
+pub use naming::{name_of, names_given, names_of};

@@ -1,0 +1,9 @@
+pub mod Ads
+pub mod Classing
+pub mod Explaining
+pub mod Expressions
+pub mod Gangs
+pub mod Jobs
+pub mod Keyed
+pub mod Queries
+pub mod Status

@@ -1,7 +1,0 @@
-use Rattle.std.proofs.Common.{◌≡◌, map, take}
-use Rattle.ad_store.specs.Store.{stock_of}
-use Rattle.pool_state.specs.Pool.{name_in}
-use Rattle.pool_state.proofs.negotiation.names_of.Given as goal
-
-abbrev pub invariant-loop-slot : goal.invariant-loop-slot
-invariant-loop-slot l = l.names ≡ map (name_in (stock_of l.store)) (take l.slot-index l.slots)

@@ -1,7 +1,0 @@
-use Rattle.std.proofs.Common.{◌≡◌, map, take}
-use Rattle.ad_store.specs.Store.{stock_of}
-use Rattle.pool_state.specs.Rows.{spin_row}
-use Rattle.pool_state.proofs.negotiation.spin_rows.Given as goal
-
-abbrev pub invariant-loop-i : goal.invariant-loop-i
-invariant-loop-i l = l.list ≡ map (spin_row (stock_of l.store)) (take l.i l.spins)

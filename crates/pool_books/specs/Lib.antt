@@ -1,3 +1,4 @@
+pub mod Adverts
 pub mod Apart
 pub mod Books
 pub mod ClaimAnswers

@@ -1,6 +1,7 @@
 // The ads and the jobs of a pool, which change together.
 ghost use Rattle.std.specs.Prelude.{◌≡◌, ◌≢◌, ◌+◌, ◌-◌, ◌≤◌, ◌<◌, ◌++◌, ◌∷◌, [], All, true, false, not, length, bytes_eq, Contains, IfErr, IfOk, IsTrue, None};
 ghost use Rattle.std.specs.Prelude.{OnErr, OnOk, Some, ◌*◌, ℕ, List, map};
+ghost use Rattle.pool_steps.specs.Spent.{IsPaid, IsSame};
 ghost use Rattle.ad_store.specs.Answers.{is_added};
 ghost use Rattle.ad_store.specs.Stock.{expired_slots, first_expired, has, lack, placed, slots_without, without};
 ghost use Rattle.ad_store.specs.Store.{stock_of};
@@ -20,13 +21,14 @@ ghost use Rattle.pool_books.specs.Queue.{claim_names, has_job, job_refusal, name
 ghost use Rattle.pool_books.specs.State.{idle};
 ghost use Rattle.pool_books.specs.Stored.{are_stored};
 
+use crate::Advertised;
 use crate::indexed::IndexedStore;
 use ad_store::{Put, PutFault};
-use ad_tree::{Ad, Request};
+use ad_tree::Request;
 use claim_table::{ClaimFault, ClaimTable, FreedList, JobFault};
 use negotiator::{Cycle, Priorities, cycle};
 use pool_replies::Reply;
-use pool_steps::Steps;
+use pool_steps::{Meter, Steps};
 use pool_text::{OutOfMemory, Slots};
 use std::alloc::Global;
 use std::convert::AsSlice;
@@ -45,6 +47,7 @@ pub struct Books {
 
 impl Books {
     ghost use Rattle.ad_store.specs.Stock.{Advert};
+    ghost use Rattle.pool_books.specs.Adverts.{advert_of};
     ghost use Rattle.pool_books.specs.Apart.{AreExclusive};
     ghost use Rattle.pool_books.specs.Books.{queue_of};
     ghost use Rattle.pool_books.specs.ClaimAnswers.{IsClaimAnswer, IsReleaseAnswer};
@@ -81,25 +84,20 @@ impl Books {
     pub fn put<T: Ledger>(
         &mut self,
         alloc: Global,
-        name: &[u8],
-        born: u64,
-        lifetime: u64,
-        text_len: u64,
-        ad: Ad,
+        advertised: Advertised<'_>,
         touch: &mut Steps<T>,
     ) -> Result<Put, PutFault>
-        requires small { IsSmall (ad_frames ad) }
-        ensures ads { OnOk result (ads_of self.new.ads
-            ≡ placed (record { name = name.now; born = born; lifetime = lifetime; size = text_len; ad = ad_frames ad }) (ads_of self.old.ads)) }
+        requires small { IsSmall (ad_frames advertised.ad) }
+        ensures ads { OnOk result (ads_of self.new.ads ≡ placed (advert_of advertised.entry) (ads_of self.old.ads)) }
         ensures jobs { OnOk result (queue_of self.new ≡ queue_of self.old) }
-        ensures added { IfOk result (λ put. is_added put ≡ not (has name.now (ads_of self.old.ads))) }
-        ensures room { OnOk result (lack name.now text_len (ads_of self.old.ads) ≡ None) }
+        ensures added { IfOk result (λ put. is_added put ≡ not (has advertised.entry.name.now (ads_of self.old.ads))) }
+        ensures room { OnOk result (lack advertised.entry.name.now advertised.entry.text_len (ads_of self.old.ads) ≡ None) }
         ensures cause { IfErr result (λ fault. fault ≢ PutFault.OutOfMemory
-            → (lack name.now text_len (ads_of self.old.ads) ≡ Some fault)
+            → (lack advertised.entry.name.now advertised.entry.text_len (ads_of self.old.ads) ≡ Some fault)
             × (ads_of self.new.ads ≡ ads_of self.old.ads) × (queue_of self.new ≡ queue_of self.old)) }
         ensures looks { touch.new ≤ touch.old + 2 }
     {
-        match self.ads.put(name, born, lifetime, text_len, ad, touch) {
+        match self.ads.put(advertised, touch) {
             Ok(put) => Ok(put),
             Err(PutFault::Full) => Err(PutFault::Full),
             Err(PutFault::FullText) => Err(PutFault::FullText),
@@ -236,18 +234,17 @@ impl Books {
         alloc: Global,
         priorities: &Priorities,
         moment: u64,
-        tops: &mut Steps<F>,
-        entry: &mut Steps<E>,
-        touch: &mut Steps<T>,
+        meter: &mut Meter<'_, F, E, T>,
     ) -> Result<Cycle, OutOfMemory>
         requires { IsIndex self.old.ads.index (rows_of (stock_of self.old.ads.store)) }
         ensures ads { self.new.ads ≡ self.old.ads }
         ensures cycle { IfOk result (λ spins. (rows : List SpinRow) → rows ≡ map (spin_row (stock_of self.old.ads.store)) spins
             → steps.negotiate (state_with moment (settings_of priorities.now) self.old) ≡ (state_with moment (settings_of priorities.now) self.new, Reply.Cycle rows)) }
         ensures held { IfOk result (All (IsSpinHeld (stock_of self.old.ads.store).slots)) }
-        ensures cost { tops.new ≤ tops.old + 5 * steps.undecided_for_jobs (state_with moment (settings_of priorities.now) self.old) }
-        ensures ratio { entry.new + 9216 * tops.old ≤ entry.old + 9216 * tops.new }
-        ensures looks { touch.new ≤ touch.old + steps.looks_for_jobs (state_with moment (settings_of priorities.now) self.old) }
+        ensures cost { meter.new.tops.now ≤ meter.old.tops.now + 5 * steps.undecided_for_jobs (state_with moment (settings_of priorities.now) self.old) }
+        ensures same { IsSame meter.old meter.new }
+        ensures ratio { IsPaid meter.old meter.new }
+        ensures looks { meter.new.touch.now ≤ meter.old.touch.now + steps.looks_for_jobs (state_with moment (settings_of priorities.now) self.old) }
     {
         self.ads.store.names_are_apart();
         self.ads.store.slots_are_apart();
@@ -260,9 +257,9 @@ impl Books {
             &mut self.claims,
             priorities,
             moment,
-            tops,
-            entry,
-            touch,
+            meter.tops,
+            meter.entry,
+            meter.touch,
         )
     }
 
@@ -273,24 +270,32 @@ impl Books {
         priorities: &Priorities,
         name: &[u8],
         moment: u64,
-        tops: &mut Steps<F>,
-        entry: &mut Steps<E>,
-        touch: &mut Steps<T>,
+        meter: &mut Meter<'_, F, E, T>,
     ) -> Result<FreedList, ClaimFault>
         ensures ads { self.new.ads ≡ self.old.ads }
         ensures claim { IsClaimAnswer (stock_of self.old.ads.store) (state_with moment (settings_of priorities.now) self.old) name.now
             (state_with moment (settings_of priorities.now) self.new) result }
-        ensures cost { (settings : List Setting) → tops.new ≤ tops.old + 4 * undecided_for_claim (state_with moment settings self.old) name.now }
-        ensures ratio { entry.new + 9216 * tops.old ≤ entry.old + 9216 * tops.new }
-        ensures looks { (settings : List Setting) → touch.new ≤ touch.old + 9 * offered_for_claim (state_with moment settings self.old) name.now }
+        ensures cost { (settings : List Setting)
+            → meter.new.tops.now ≤ meter.old.tops.now + 4 * undecided_for_claim (state_with moment settings self.old) name.now }
+        ensures same { IsSame meter.old meter.new }
+        ensures ratio { IsPaid meter.old meter.new }
+        ensures looks { (settings : List Setting)
+            → meter.new.touch.now ≤ meter.old.touch.now + 9 * offered_for_claim (state_with moment settings self.old) name.now }
     {
         self.ads.store.names_are_apart();
         self.ads.store.slots_are_apart();
         self.claims.names_are_apart();
         self.claims.resources_are_apart();
         let ads = &self.ads;
-        self.claims
-            .claim(&ads.store, priorities, name, moment, tops, entry, touch)
+        self.claims.claim(
+            &ads.store,
+            priorities,
+            name,
+            moment,
+            meter.tops,
+            meter.entry,
+            meter.touch,
+        )
     }
 
     /// Makes the job of a name idle, and hands back what was offered to it or claimed by it.

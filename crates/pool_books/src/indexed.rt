@@ -10,8 +10,8 @@ ghost use Rattle.ad_candidates.specs.Rows.{rows_of};
 ghost use Rattle.dock_match.specs.Small.{AreSmallAds};
 ghost use Rattle.pool_books.specs.Stocks.{stock_without};
 
+use crate::Advertised;
 use ad_store::{NoName, Put, PutFault, Store};
-use ad_tree::Ad;
 use literal_index::Index;
 use pool_steps::Steps;
 use pool_text::OutOfMemory;
@@ -29,6 +29,7 @@ pub struct IndexedStore {
 
 impl IndexedStore {
     ghost use Rattle.ad_store.specs.Stock.{Advert};
+    ghost use Rattle.pool_books.specs.Adverts.{advert_of};
     ghost use Rattle.pool_books.specs.Indexed.{ads_of};
 
     pub fn new(alloc: Global) -> IndexedStore
@@ -44,23 +45,26 @@ impl IndexedStore {
     /// were, unless memory was wanting: then the ad of the name may be gone.
     pub fn put<T: Ledger>(
         &mut self,
-        name: &[u8],
-        born: u64,
-        lifetime: u64,
-        text_len: u64,
-        ad: Ad,
+        advertised: Advertised<'_>,
         touch: &mut Steps<T>,
     ) -> Result<Put, PutFault>
-        requires small { IsSmall (ad_frames ad) }
-        ensures ads { OnOk result (ads_of self.new
-            ≡ placed (record { name = name.now; born = born; lifetime = lifetime; size = text_len; ad = ad_frames ad }) (ads_of self.old)) }
+        requires small { IsSmall (ad_frames advertised.ad) }
+        ensures ads { OnOk result (ads_of self.new ≡ placed (advert_of advertised.entry) (ads_of self.old)) }
         ensures slots { IfOk result (λ put. (stock_of self.new.store).slots ≡ slots_put put (stock_of self.old.store).slots) }
-        ensures added { IfOk result (λ put. is_added put ≡ not (has name.now (ads_of self.old))) }
-        ensures room { OnOk result (lack name.now text_len (ads_of self.old) ≡ None) }
+        ensures added { IfOk result (λ put. is_added put ≡ not (has advertised.entry.name.now (ads_of self.old))) }
+        ensures room { OnOk result (lack advertised.entry.name.now advertised.entry.text_len (ads_of self.old) ≡ None) }
         ensures cause { IfErr result (λ fault. fault ≢ PutFault.OutOfMemory
-            → (lack name.now text_len (ads_of self.old) ≡ Some fault) × (stock_of self.new.store ≡ stock_of self.old.store)) }
+            → (lack advertised.entry.name.now advertised.entry.text_len (ads_of self.old) ≡ Some fault)
+            × (stock_of self.new.store ≡ stock_of self.old.store)) }
         ensures looks { touch.new ≤ touch.old + 2 }
     {
+        let Advertised {
+            name,
+            born,
+            lifetime,
+            text_len,
+            ad,
+        } = advertised;
         forget(&self.store, &mut self.index, name, touch);
         let put = self.store.put(name, born, lifetime, text_len, ad);
         let Ok(()) = remember(&mut self.store, &mut self.index, name, touch) else {

@@ -68,7 +68,7 @@ returns-clause-cost g c =
     let stock = stock_of books.ads.store in
     let beside : AreBeside stock.ads stock.slots =
     record { long = sym c.len-len.ensures.ads ∙ c.len-len.ensures.slots; names = c.names_are_apart.ensures; apart = c.slots_are_apart.ensures } in
-    subst (λ (n : ℕ). c.cycle.new.tops ≤ c.args.tops.now + 5 * n)
+    subst (λ (n : ℕ). c.cycle.new.tops ≤ c.args.meter.now.tops.now + 5 * n)
     (sym (undecided-seen stock beside c.args.moment (settings_of c.args.priorities.now) (jobs_of books.claims) books.listed books.owned))
     c.cycle.ensures.evaluations
 
@@ -78,5 +78,5 @@ returns-clause-looks g c =
     let stock = stock_of books.ads.store in
     let beside : AreBeside stock.ads stock.slots =
     record { long = sym c.len-len.ensures.ads ∙ c.len-len.ensures.slots; names = c.names_are_apart.ensures; apart = c.slots_are_apart.ensures } in
-    subst (λ (n : ℕ). c.cycle.new.touch ≤ c.args.touch.now + n)
+    subst (λ (n : ℕ). c.cycle.new.touch ≤ c.args.meter.now.touch.now + n)
     (sym (looks-seen stock beside c.args.moment (settings_of c.args.priorities.now) (jobs_of books.claims) books.listed books.owned)) c.cycle.ensures.looks

@@ -1,7 +1,7 @@
-use Rattle.ad_tree.specs.Ad.{ad_frames}
 use Rattle.ad_store.specs.Stock.{Advert, Stock}
 use Rattle.ad_store.specs.Store.{stock_of}
 use Rattle.claim_table.specs.Table.{jobs_of}
+use Rattle.pool_books.specs.Adverts.{advert_of}
 use Rattle.pool_books.proofs.AdLemmas.{stock-length}
 use Rattle.pool_books.proofs.JobLemmas.{queue-put, stored-put}
 use Rattle.pool_books.proofs.books.Books.put.Goals as goal
@@ -11,7 +11,7 @@ invariant_of-self g c =
     let books = c.args.self.now in
     let old : Stock = stock_of books.ads.store in
     let new : Stock = stock_of c.put.new.self.store in
-    let advert : Advert = record { name = c.args.name.now; born = c.args.born; lifetime = c.args.lifetime; size = c.args.text_len; ad = ad_frames c.args.ad } in
+    let advert : Advert = advert_of c.args.advertised in
     record {
       listed =
           stored-put c.in-Ok.put advert old new (stock-length books.ads.store) c.in-Ok.ensures.ads c.in-Ok.ensures.slots c.in-Ok.ensures.added
@@ -25,6 +25,6 @@ returns-in-Ok-clause-jobs g c =
     let books = c.args.self.now in
     let old : Stock = stock_of books.ads.store in
     let new : Stock = stock_of c.put.new.self.store in
-    let advert : Advert = record { name = c.args.name.now; born = c.args.born; lifetime = c.args.lifetime; size = c.args.text_len; ad = ad_frames c.args.ad } in
+    let advert : Advert = advert_of c.args.advertised in
     queue-put c.in-Ok.put advert old new (stock-length books.ads.store) c.in-Ok.ensures.ads c.in-Ok.ensures.slots c.in-Ok.ensures.added (jobs_of books.claims)
     books.listed

@@ -1,10 +1,10 @@
 use Rattle.std.proofs.Common.{sym, subst}
 use Rattle.std.proofs.Math.Logic.{∥∥₁_map}
-use Rattle.ad_tree.specs.Ad.{ad_frames}
 use Rattle.ad_store.specs.Stock.{Advert, Stock}
 use Rattle.ad_store.specs.Store.{stock_of}
 use Rattle.literal_index.specs.Shown.{IsKept}
 use Rattle.ad_candidates.specs.Rows.{rows_of}
+use Rattle.pool_books.specs.Adverts.{advert_of}
 use Rattle.pool_books.specs.Stocks.{stock_without}
 use Rattle.pool_books.proofs.AdLemmas.{stock-length}
 use Rattle.pool_books.proofs.IndexLemmas.{others_kept, remembered}
@@ -13,10 +13,10 @@ use Rattle.pool_books.proofs.indexed.IndexedStore.put.Goals as goal
 
 pub invariant_of-self : goal.invariant_of-self
 invariant_of-self g c =
-    let name = c.args.name.now in
+    let name = c.args.advertised.name.now in
     let old : Stock = stock_of c.args.self.now.store in
     let put : Stock = stock_of c.put-put.new.self in
-    let advert : Advert = record { name = name; born = c.args.born; lifetime = c.args.lifetime; size = c.args.text_len; ad = ad_frames c.args.ad } in
+    let advert : Advert = advert_of c.args.advertised in
     let p = c.put-put.ensures in
     let same = others_kept c.put-put.result advert old put (stock-length c.args.self.now.store) p.ads p.slots p.added p.err in
     let others : IsKept c.args.self.now.index (rows_of old) → IsKept c.forget.new.index (rows_of (stock_without name put)) =

@@ -5,6 +5,7 @@ mod LoopLemmas
 mod MemberLemmas
 mod MemberScanLemmas
 mod MemberWeighLemmas
+mod MeterLemmas
 pub mod OfferLemmas
 mod OrderLemmas
 pub mod PoolLemmas

@@ -4,4 +4,5 @@ pub mod DockedAlike
 pub mod Known
 pub mod Members
 pub mod Scan
+pub mod Scenes
 pub mod Shortlists

@@ -10,21 +10,24 @@ ghost use Rattle.ad_candidates.specs.Counts.{least_left};
 ghost use Rattle.ad_candidates.specs.Rows.{rows_of};
 ghost use Rattle.dock_match.specs.Pool.{AreStored, pool_of};
 ghost use Rattle.dock_match.specs.Small.{AreSmallAds, AreSmallHolders};
+ghost use Rattle.pool_steps.specs.Spent.{IsPaid, Spends};
 ghost use Rattle.bilateral_match.specs.Counts.{entered_for, open_count};
 ghost use Rattle.bilateral_match.specs.Known.{AreKnown, AreRanks, is_known_below, rank_expr};
 ghost use Rattle.bilateral_match.specs.Members.{IsBest, best_slot};
 ghost use Rattle.bilateral_match.specs.Members as members;
 ghost use Rattle.bilateral_match.specs.Scan as scan;
+ghost use Rattle.bilateral_match.specs.Scenes.{pool_in, request_in, stock_in};
 
 use crate::known::{Known, Ranking};
 use crate::looks::Looks;
 use crate::member::Member;
 use crate::members::{member_at, reaches};
+use crate::scene::Scene;
 use ad_candidates::candidates_knowing;
 use ad_store::{Holdings, Store};
 use ad_tree::Request;
 use literal_index::Index;
-use pool_steps::Steps;
+use pool_steps::{Meter, Steps};
 use pool_text::{OutOfMemory, Slots};
 use std::alloc::Global;
 use std::convert::AsSlice;
@@ -43,7 +46,7 @@ use std::sync::ledger::Ledger;
 /// each it counts at most nine in `touch`: the ad, and up to eight to rank its holder. In `tops` and `entry` it counts what
 /// evaluations count: five at most for a resource that isn't offered and whose dock no test of either side decides, and
 /// none for any other.
-pub fn best<H: Holdings, F: Ledger, E: Ledger, T: Ledger>(
+pub fn best<'a, H: Holdings, F: Ledger, E: Ledger, T: Ledger>(
     alloc: Global,
     store: &Store,
     index: &Index,
@@ -51,9 +54,9 @@ pub fn best<H: Holdings, F: Ledger, E: Ledger, T: Ledger>(
     request: &Request,
     number: u64,
     moment: u64,
-    tops: &mut Steps<F>,
-    entry: &mut Steps<E>,
-    touch: &mut Steps<T>,
+    tops: &'a mut Steps<F>,
+    entry: &'a mut Steps<E>,
+    touch: &'a mut Steps<T>,
 ) -> Result<Option<usize>, OutOfMemory>
     requires index { IsIndex index.now (rows_of (stock_of store.now)) }
     requires stored { AreStored (stock_of store.now) (H.holding held.now) }
@@ -71,12 +74,19 @@ pub fn best<H: Holdings, F: Ledger, E: Ledger, T: Ledger>(
     ensures looks { touch.new ≤ touch.old
         + 9 * least_left (stock_of store.now).ads (tests_of (ad_frames request.now.ad) 0 []) }
 {
+    let scene = Scene {
+        alloc,
+        store,
+        index,
+        held,
+        request,
+        number,
+        moment,
+    };
     let mut known = Known::new(alloc);
     let mut looks = Looks::none();
-    best_knowing(
-        alloc, store, index, held, request, number, moment, &mut known, &mut looks, tops, entry,
-        touch,
-    )
+    let mut meter = Meter::new(tops, entry, touch);
+    best_in(&scene, &mut known, &mut looks, &mut meter)
 }
 
 /// The same slot as `best`, found with what is known of ranks: a resource whose rank by the job is known, and lower than that of
@@ -84,7 +94,7 @@ pub fn best<H: Holdings, F: Ledger, E: Ledger, T: Ledger>(
 /// resource's literals settle them, so that each is evaluated once for all jobs with the same rank expression.
 ///
 /// It counts no more than `best` may, and adds to `looks.saved` what it knows of the looks that `best` may make and it doesn't.
-pub fn best_knowing<H: Holdings, F: Ledger, E: Ledger, T: Ledger>(
+pub fn best_knowing<'a, H: Holdings, F: Ledger, E: Ledger, T: Ledger>(
     alloc: Global,
     store: &Store,
     index: &Index,
@@ -94,9 +104,9 @@ pub fn best_knowing<H: Holdings, F: Ledger, E: Ledger, T: Ledger>(
     moment: u64,
     known: &mut Known,
     looks: &mut Looks,
-    tops: &mut Steps<F>,
-    entry: &mut Steps<E>,
-    touch: &mut Steps<T>,
+    tops: &'a mut Steps<F>,
+    entry: &'a mut Steps<E>,
+    touch: &'a mut Steps<T>,
 ) -> Result<Option<usize>, OutOfMemory>
     requires index { IsIndex index.now (rows_of (stock_of store.now)) }
     requires stored { AreStored (stock_of store.now) (H.holding held.now) }
@@ -118,25 +128,56 @@ pub fn best_knowing<H: Holdings, F: Ledger, E: Ledger, T: Ledger>(
     ensures saved { touch.new + looks.new.saved ≤ touch.old + looks.old.saved
         + 9 * least_left (stock_of store.now).ads (tests_of (ad_frames request.now.ad) 0 []) }
 {
-    let places = candidates_knowing(alloc, store, index, request, &mut known.tests)?;
-    looks.begin(places.len());
-    let mut ranking = known.take(alloc, store.len(), request)?;
-    let first = first_at(
+    let scene = Scene {
         alloc,
         store,
+        index,
         held,
         request,
         number,
         moment,
-        &places,
-        &mut ranking,
-        looks,
-        tops,
-        entry,
-        touch,
+    };
+    let mut meter = Meter::new(tops, entry, touch);
+    best_in(&scene, known, looks, &mut meter)
+}
+
+// The slot of the best resource of a scene, found with what is known.
+fn best_in<H: Holdings, F: Ledger, E: Ledger, T: Ledger>(
+    scene: &Scene<'_, H>,
+    known: &mut Known,
+    looks: &mut Looks,
+    meter: &mut Meter<'_, F, E, T>,
+) -> Result<Option<usize>, OutOfMemory>
+    requires index { IsIndex scene.now.index.now (rows_of (stock_in scene.now)) }
+    requires stored { AreStored (stock_in scene.now) (H.holding scene.now.held.now) }
+    requires single { scene.now.request.now.ports ≡ [] }
+    requires known { AreKnown scene.now.moment (stock_in scene.now).ads known.old }
+    ensures known { AreKnown scene.now.moment (stock_in scene.now).ads known.new }
+    ensures best { IfOk result (λ slot. slot
+        ≡ best_slot (stock_in scene.now) (pool_in H.is_offered H.holding scene.now) (request_in scene.now) scene.now.number) }
+    ensures held { IfOk result (λ slot. IfSome slot (Contains (stock_in scene.now).slots)) }
+    ensures free { IfOk result (λ slot. IfSome slot (λ s. H.is_offered scene.now.held.now s ≡ false)) }
+    ensures spent { Spends meter.old meter.new (5 * open_count (pool_in H.is_offered H.holding scene.now) (request_in scene.now))
+        (entered_for (pool_in H.is_offered H.holding scene.now) (request_in scene.now))
+        (9 * least_left (stock_in scene.now).ads (tests_of (request_in scene.now) 0 [])) }
+    ensures ratio { IsSmall (request_in scene.now) → AreSmallAds (stock_in scene.now).ads → AreSmallHolders (H.holding scene.now.held.now)
+        → IsPaid meter.old meter.new }
+    ensures saved { meter.new.touch.now + looks.new.saved ≤ meter.old.touch.now + looks.old.saved
+        + 9 * least_left (stock_in scene.now).ads (tests_of (request_in scene.now) 0 []) }
+{
+    let request = scene.request;
+    let places = candidates_knowing(
+        scene.alloc,
+        scene.store,
+        scene.index,
+        request,
+        &mut known.tests,
     )?;
+    looks.begin(places.len());
+    let mut ranking = known.take(scene.alloc, scene.store.len(), request)?;
+    let first = first_at(scene, &places, &mut ranking, looks, meter)?;
     known.keep(request, ranking)?;
-    Ok(slot_of(store, first))
+    Ok(slot_of(scene.store, first))
 }
 
 // The slot of a member.
@@ -151,43 +192,30 @@ fn slot_of(store: &Store, member: Option<Member>) -> Option<usize>
 
 // The first of the members at these places.
 fn first_at<H: Holdings, F: Ledger, E: Ledger, T: Ledger>(
-    alloc: Global,
-    store: &Store,
-    held: &H,
-    request: &Request,
-    number: u64,
-    moment: u64,
+    scene: &Scene<'_, H>,
     places: &Slots,
     ranking: &mut Ranking,
     looks: &mut Looks,
-    tops: &mut Steps<F>,
-    entry: &mut Steps<E>,
-    touch: &mut Steps<T>,
+    meter: &mut Meter<'_, F, E, T>,
 ) -> Result<Option<Member>, OutOfMemory>
-    requires stored { AreStored (stock_of store.now) (H.holding held.now) }
-    requires single { request.now.ports ≡ [] }
-    requires places { All (λ place. place < length (stock_of store.now).slots) places.now }
-    requires ranks { AreRanks moment (stock_of store.now).ads (rank_expr (ad_frames request.now.ad)) ranking.old.ranks.items }
-    ensures ranks { AreRanks moment (stock_of store.now).ads (rank_expr (ad_frames request.now.ad)) ranking.new.ranks.items }
+    requires stored { AreStored (stock_in scene.now) (H.holding scene.now.held.now) }
+    requires single { scene.now.request.now.ports ≡ [] }
+    requires places { All (λ place. place < length (stock_in scene.now).slots) places.now }
+    requires ranks { AreRanks scene.now.moment (stock_in scene.now).ads (rank_expr (request_in scene.now)) ranking.old.ranks.items }
+    ensures ranks { AreRanks scene.now.moment (stock_in scene.now).ads (rank_expr (request_in scene.now)) ranking.new.ranks.items }
     ensures first { IfOk result (λ first. IsBest (filter_map
-        (scan.member_at (pool_of moment (stock_of store.now) (H.is_offered held.now) (H.holding held.now)) (ad_frames request.now.ad) number) places.now)
-        first) }
-    ensures evaluations { tops.new ≤ tops.old + sum_by (scan.evaluations_for (pool_of moment (stock_of store.now) (H.is_offered held.now) (H.holding held.now))
-        (ad_frames request.now.ad)) places.now }
-    ensures entries { entry.new ≤ entry.old + sum_by (scan.attributes_for (pool_of moment (stock_of store.now) (H.is_offered held.now) (H.holding held.now))
-        (ad_frames request.now.ad)) places.now }
-    ensures ratio { IsSmall (ad_frames request.now.ad) → AreSmallAds (stock_of store.now).ads → AreSmallHolders (H.holding held.now)
-        → entry.new + 9216 * tops.old ≤ entry.old + 9216 * tops.new }
-    ensures looks { touch.new ≤ touch.old + 9 * length places.now }
-    ensures saved { touch.new + looks.new.saved ≤ touch.old + looks.old.saved + 9 * length places.now }
+        (scan.member_at (pool_in H.is_offered H.holding scene.now) (request_in scene.now) scene.now.number) places.now) first) }
+    ensures spent { Spends meter.old meter.new
+        (sum_by (scan.evaluations_for (pool_in H.is_offered H.holding scene.now) (request_in scene.now)) places.now)
+        (sum_by (scan.attributes_for (pool_in H.is_offered H.holding scene.now) (request_in scene.now)) places.now) (9 * length places.now) }
+    ensures ratio { IsSmall (request_in scene.now) → AreSmallAds (stock_in scene.now).ads → AreSmallHolders (H.holding scene.now.held.now)
+        → IsPaid meter.old meter.new }
+    ensures saved { meter.new.touch.now + looks.new.saved ≤ meter.old.touch.now + looks.old.saved + 9 * length places.now }
 {
     let mut first = None;
     for place in places.as_slice() {
         let bar = rank_of(&first);
-        let next = next_at(
-            alloc, store, held, request, number, moment, *place, bar, ranking, looks, tops, entry,
-            touch,
-        )?;
+        let next = next_at(scene, *place, bar, ranking, looks, meter)?;
         first = earlier(first, next);
     }
     Ok(first)
@@ -195,43 +223,31 @@ fn first_at<H: Holdings, F: Ledger, E: Ledger, T: Ledger>(
 
 // The resource at a place, as `member_at` has it: nothing is looked at where its rank is known not to reach the bar.
 fn next_at<H: Holdings, F: Ledger, E: Ledger, T: Ledger>(
-    alloc: Global,
-    store: &Store,
-    held: &H,
-    request: &Request,
-    number: u64,
-    moment: u64,
+    scene: &Scene<'_, H>,
     place: usize,
     bar: Option<i128>,
     ranking: &mut Ranking,
     looks: &mut Looks,
-    tops: &mut Steps<F>,
-    entry: &mut Steps<E>,
-    touch: &mut Steps<T>,
+    meter: &mut Meter<'_, F, E, T>,
 ) -> Result<Option<Member>, OutOfMemory>
-    requires stored { AreStored (stock_of store.now) (H.holding held.now) }
-    requires single { request.now.ports ≡ [] }
-    requires place { place < length (stock_of store.now).slots }
-    requires ranks { AreRanks moment (stock_of store.now).ads (rank_expr (ad_frames request.now.ad)) ranking.old.ranks.items }
-    ensures ranks { AreRanks moment (stock_of store.now).ads (rank_expr (ad_frames request.now.ad)) ranking.new.ranks.items }
-    ensures member { IfOk result (λ member. member ≡ scan.member_above bar (scan.member_at
-        (pool_of moment (stock_of store.now) (H.is_offered held.now) (H.holding held.now)) (ad_frames request.now.ad) number place)) }
-    ensures evaluations { tops.new ≤ tops.old + scan.evaluations_for (pool_of moment (stock_of store.now) (H.is_offered held.now)
-        (H.holding held.now)) (ad_frames request.now.ad) place }
-    ensures entries { entry.new ≤ entry.old + scan.attributes_for (pool_of moment (stock_of store.now) (H.is_offered held.now) (H.holding held.now)) (ad_frames
-        request.now.ad) place }
-    ensures ratio { IsSmall (ad_frames request.now.ad) → AreSmallAds (stock_of store.now).ads → AreSmallHolders (H.holding held.now)
-        → entry.new + 9216 * tops.old ≤ entry.old + 9216 * tops.new }
-    ensures looks { touch.new ≤ touch.old + 9 }
-    ensures saved { touch.new + looks.new.saved ≤ touch.old + looks.old.saved + 9 }
+    requires stored { AreStored (stock_in scene.now) (H.holding scene.now.held.now) }
+    requires single { scene.now.request.now.ports ≡ [] }
+    requires place { place < length (stock_in scene.now).slots }
+    requires ranks { AreRanks scene.now.moment (stock_in scene.now).ads (rank_expr (request_in scene.now)) ranking.old.ranks.items }
+    ensures ranks { AreRanks scene.now.moment (stock_in scene.now).ads (rank_expr (request_in scene.now)) ranking.new.ranks.items }
+    ensures member { IfOk result (λ member. member ≡ scan.member_above bar
+        (scan.member_at (pool_in H.is_offered H.holding scene.now) (request_in scene.now) scene.now.number place)) }
+    ensures spent { Spends meter.old meter.new (scan.evaluations_for (pool_in H.is_offered H.holding scene.now) (request_in scene.now) place)
+        (scan.attributes_for (pool_in H.is_offered H.holding scene.now) (request_in scene.now) place) 9 }
+    ensures ratio { IsSmall (request_in scene.now) → AreSmallAds (stock_in scene.now).ads → AreSmallHolders (H.holding scene.now.held.now)
+        → IsPaid meter.old meter.new }
+    ensures saved { meter.new.touch.now + looks.new.saved ≤ meter.old.touch.now + looks.old.saved + 9 }
 {
     if is_known_below(bar, ranking.at(place)) {
         looks.save(9);
         return Ok(None);
     }
-    member_at(
-        alloc, store, held, request, number, moment, place, bar, ranking, looks, tops, entry, touch,
-    )
+    member_at(scene, place, bar, ranking, looks, meter)
 }
 
 // Whether a rank is known not to reach the bar.

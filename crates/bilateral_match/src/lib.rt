@@ -10,6 +10,7 @@ mod looks;
 mod member;
 mod members;
 mod querying;
+mod scene;
 mod settled;
 mod shortlists;
 mod weighing;

@@ -2,93 +2,85 @@
 ghost use Rattle.std.specs.Prelude.{◌≡◌, ◌≤◌, ◌<◌, ◌+◌, ◌*◌, Option, [], length, IfOk, IfSome, Some, if◌then◌else◌};
 ghost use Rattle.ad_tree.specs.Ad.{ad_frames};
 ghost use Rattle.ad_tree.specs.Small.{IsSmall};
-ghost use Rattle.ad_store.specs.Store.{stock_of};
 ghost use Rattle.ad_eval.specs.Dock.{rank_by};
 ghost use Rattle.ad_eval.specs.Small.{AreSmall};
 ghost use Rattle.eval_scope.specs.Shown.{world_of};
 ghost use Rattle.eval_scope.specs.World.{attribute_count, request_side};
 ghost use Rattle.dock_match.specs.declared.preemption.Preemption.{Preemption};
 ghost use Rattle.dock_match.specs.Docks.{is_undecided, last_open, pair_world, rank_of_dock};
-ghost use Rattle.dock_match.specs.Pool as pool;
+ghost use Rattle.dock_match.specs.Pool.{AreStored};
 ghost use Rattle.dock_match.specs.Small.{AreSmallAds, AreSmallHolders};
+ghost use Rattle.pool_steps.specs.Spent.{IsPaid, Spends};
 ghost use Rattle.bilateral_match.specs.Known.{AreRanks, rank_expr};
 ghost use Rattle.bilateral_match.specs.Scan as scan;
+ghost use Rattle.bilateral_match.specs.Scenes.{pool_in, request_in, stock_in};
 
 use crate::known::Ranking;
 use crate::looks::Looks;
 use crate::member::{Member, Ranks};
+use crate::scene::Scene;
 use ad_eval::rank;
-use ad_store::{Holdings, Store};
-use ad_tree::{Ad, Request};
+use ad_store::Holdings;
+use ad_tree::Ad;
 use dock_match::{OpenSides, Preemption, open_sides, won_from};
 use eval_scope::World;
-use pool_steps::Steps;
+use pool_steps::{Meter, Steps};
 use pool_text::OutOfMemory;
 use std::alloc::Global;
 use std::sync::ledger::Ledger;
 
-/// The resource at a place, if it is a member for the job, whose user has this number, and the job ranks it no lower than the
-/// bar, where there is one. A resource below the bar isn't asked how it ranks the job, nor is its holder. The job's rank is
-/// noted in the ranking, and what the looks come to in `looks`.
+/// The resource at a place, if it is a member for the job, and the job ranks it no lower than the bar, where there is one. A
+/// resource below the bar isn't asked how it ranks the job, nor is its holder. The job's rank is noted in the ranking, and what the
+/// looks come to in `looks`.
 pub fn member_at<H: Holdings, F: Ledger, E: Ledger, T: Ledger>(
-    alloc: Global,
-    store: &Store,
-    held: &H,
-    request: &Request,
-    number: u64,
-    moment: u64,
+    scene: &Scene<'_, H>,
     place: usize,
     bar: Option<i128>,
     ranking: &mut Ranking,
     looks: &mut Looks,
-    tops: &mut Steps<F>,
-    entry: &mut Steps<E>,
-    touch: &mut Steps<T>,
+    meter: &mut Meter<'_, F, E, T>,
 ) -> Result<Option<Member>, OutOfMemory>
-    requires stored { pool.AreStored (stock_of store.now) (H.holding held.now) }
-    requires single { request.now.ports ≡ [] }
-    requires place { place < length (stock_of store.now).slots }
-    requires ranks { AreRanks moment (stock_of store.now).ads (rank_expr (ad_frames request.now.ad)) ranking.old.ranks.items }
-    ensures ranks { AreRanks moment (stock_of store.now).ads (rank_expr (ad_frames request.now.ad)) ranking.new.ranks.items }
-    ensures member { IfOk result (λ member. member ≡ scan.member_above bar (scan.member_at
-        (pool.pool_of moment (stock_of store.now) (H.is_offered held.now) (H.holding held.now)) (ad_frames request.now.ad) number place)) }
-    ensures evaluations { tops.new ≤ tops.old + scan.evaluations_for (pool.pool_of moment (stock_of store.now) (H.is_offered held.now)
-        (H.holding held.now)) (ad_frames request.now.ad) place }
-    ensures entries { entry.new ≤ entry.old + scan.attributes_for (pool.pool_of moment (stock_of store.now) (H.is_offered held.now)
-        (H.holding held.now)) (ad_frames request.now.ad) place }
-    ensures ratio { IsSmall (ad_frames request.now.ad) → AreSmallAds (stock_of store.now).ads → AreSmallHolders (H.holding held.now)
-        → entry.new + 9216 * tops.old ≤ entry.old + 9216 * tops.new }
-    ensures looks { touch.new ≤ touch.old + 9 }
-    ensures saved { touch.new + looks.new.saved ≤ touch.old + looks.old.saved + 9 }
+    requires stored { AreStored (stock_in scene.now) (H.holding scene.now.held.now) }
+    requires single { scene.now.request.now.ports ≡ [] }
+    requires place { place < length (stock_in scene.now).slots }
+    requires ranks { AreRanks scene.now.moment (stock_in scene.now).ads (rank_expr (request_in scene.now)) ranking.old.ranks.items }
+    ensures ranks { AreRanks scene.now.moment (stock_in scene.now).ads (rank_expr (request_in scene.now)) ranking.new.ranks.items }
+    ensures member { IfOk result (λ member. member ≡ scan.member_above bar
+        (scan.member_at (pool_in H.is_offered H.holding scene.now) (request_in scene.now) scene.now.number place)) }
+    ensures spent { Spends meter.old meter.new (scan.evaluations_for (pool_in H.is_offered H.holding scene.now) (request_in scene.now) place)
+        (scan.attributes_for (pool_in H.is_offered H.holding scene.now) (request_in scene.now) place) 9 }
+    ensures ratio { IsSmall (request_in scene.now) → AreSmallAds (stock_in scene.now).ads → AreSmallHolders (H.holding scene.now.held.now)
+        → IsPaid meter.old meter.new }
+    ensures saved { meter.new.touch.now + looks.new.saved ≤ meter.old.touch.now + looks.old.saved + 9 }
 {
-    let slot = store.at(place);
-    if held.offered(slot) {
+    let slot = scene.store.at(place);
+    if scene.held.offered(slot) {
         return Ok(None);
     }
-    if !store.is_live(slot, moment) {
+    if !scene.store.is_live(slot, scene.moment) {
         return Ok(None);
     }
-    let ad = store.look(slot, touch);
+    let ad = scene.store.look(slot, meter.touch);
     looks.weigh();
     let known = ranking.at(place);
-    let weighed = ranks(alloc, request, ad, moment, bar, known, tops, entry)?;
-    ranking.note(&request.ad, ad, place, weighed.rank);
+    let weighed = ranks(scene, ad, bar, known, meter)?;
+    ranking.note(&scene.request.ad, ad, place, weighed.rank);
     let Some(ranks) = weighed.ranks else {
         looks.save(8);
         return Ok(None);
     };
-    let holder = held.holder(slot);
+    let holder = scene.held.holder(slot);
     looks.save_unless_held(&holder);
     let won = won_from(
-        alloc,
-        store,
+        scene.alloc,
+        scene.store,
         holder,
         ranks.regard,
-        number,
-        moment,
-        tops,
-        entry,
-        touch,
+        scene.number,
+        scene.moment,
+        meter.tops,
+        meter.entry,
+        meter.touch,
     );
     where_won(won, ranks, place)
 }
@@ -129,69 +121,72 @@ struct Weighed {
 
 // What the sides rank each other, where their dock is true and the request's rank, which may be known, reaches the bar. Nothing
 // is evaluated where a test decides the dock.
-fn ranks<F: Ledger, E: Ledger>(
-    alloc: Global,
-    request: &Request,
+fn ranks<H: Holdings, F: Ledger, E: Ledger, T: Ledger>(
+    scene: &Scene<'_, H>,
     ad: &Ad,
-    moment: u64,
     bar: Option<i128>,
     known: Option<i128>,
-    tops: &mut Steps<F>,
-    entry: &mut Steps<E>,
+    meter: &mut Meter<'_, F, E, T>,
 ) -> Result<Weighed, OutOfMemory>
-    requires single { request.now.ports ≡ [] }
-    requires known { IfSome known (λ n. n ≡ rank_of_dock moment (ad_frames request.now.ad) (ad_frames ad.now)) }
-    ensures ranks { IfOk result (λ weighed. weighed.ranks ≡ scan.ranks_above bar (scan.ranks_of_dock moment (ad_frames request.now.ad) (ad_frames ad.now))) }
-    ensures rank { IfOk result (λ weighed. IfSome weighed.rank (λ n. n ≡ rank_of_dock moment (ad_frames request.now.ad) (ad_frames ad.now))) }
-    ensures evaluations { tops.new ≤ tops.old + (if is_undecided (ad_frames request.now.ad) (ad_frames ad.now) then 4 else 0) }
-    ensures entries { entry.new ≤ entry.old + (if is_undecided (ad_frames request.now.ad) (ad_frames ad.now)
-        then 4 * attribute_count (pair_world moment (ad_frames request.now.ad) (ad_frames ad.now)) else 0) }
-    ensures ratio { IsSmall (ad_frames request.now.ad) → IsSmall (ad_frames ad.now) → entry.new + 9216 * tops.old ≤ entry.old + 9216 * tops.new }
+    requires single { scene.now.request.now.ports ≡ [] }
+    requires known { IfSome known (λ n. n ≡ rank_of_dock scene.now.moment (request_in scene.now) (ad_frames ad.now)) }
+    ensures ranks { IfOk result (λ weighed. weighed.ranks
+        ≡ scan.ranks_above bar (scan.ranks_of_dock scene.now.moment (request_in scene.now) (ad_frames ad.now))) }
+    ensures rank { IfOk result (λ weighed. IfSome weighed.rank (λ n. n ≡ rank_of_dock scene.now.moment (request_in scene.now) (ad_frames ad.now))) }
+    ensures spent { Spends meter.old meter.new (if is_undecided (request_in scene.now) (ad_frames ad.now) then 4 else 0)
+        (if is_undecided (request_in scene.now) (ad_frames ad.now)
+        then 4 * attribute_count (pair_world scene.now.moment (request_in scene.now) (ad_frames ad.now)) else 0) 0 }
+    ensures ratio { IsSmall (request_in scene.now) → IsSmall (ad_frames ad.now) → IsPaid meter.old meter.new }
 {
-    let Some(sides) = open_sides(alloc, request, 0, ad) else {
+    let request = scene.request;
+    let Some(sides) = open_sides(scene.alloc, request, 0, ad) else {
         return Ok(Weighed {
             rank: None,
             ranks: None,
         });
     };
-    let world = World::new(moment, &request.ad, &request.ports).with(ad);
-    ranks_in(alloc, &world, sides, bar, known, tops, entry)
+    let world = World::new(scene.moment, &request.ad, &request.ports).with(ad);
+    ranks_in(scene.alloc, &world, sides, bar, known, meter)
 }
 
 // What the sides of the last dock rank each other, where it is true and the request's rank reaches the bar. Tests leave these
 // sides of it open.
-fn ranks_in<F: Ledger, E: Ledger>(
+fn ranks_in<F: Ledger, E: Ledger, T: Ledger>(
     alloc: Global,
     world: &World<'_>,
     sides: OpenSides,
     bar: Option<i128>,
     known: Option<i128>,
-    tops: &mut Steps<F>,
-    entry: &mut Steps<E>,
+    meter: &mut Meter<'_, F, E, T>,
 ) -> Result<Weighed, OutOfMemory>
     requires docked { 0 < length (world_of world.now).docked }
     requires known { IfSome known (λ n. n ≡ rank_by (world_of world.now) (request_side (world_of world.now))) }
     requires left { last_open (world_of world.now) ≡ Some sides }
     ensures ranks { IfOk result (λ weighed. weighed.ranks ≡ scan.ranks_above bar (scan.ranks_in (world_of world.now))) }
     ensures rank { IfOk result (λ weighed. IfSome weighed.rank (λ n. n ≡ rank_by (world_of world.now) (request_side (world_of world.now)))) }
-    ensures evaluations { tops.new ≤ tops.old + 4 }
-    ensures entries { entry.new ≤ entry.old + 4 * attribute_count (world_of world.now) }
-    ensures ratio { AreSmall (world_of world.now) → entry.new + 9216 * tops.old ≤ entry.old + 9216 * tops.new }
+    ensures spent { Spends meter.old meter.new 4 (4 * attribute_count (world_of world.now)) 0 }
+    ensures ratio { AreSmall (world_of world.now) → IsPaid meter.old meter.new }
 {
-    if !sides.dock(alloc, world, tops, entry)? {
+    if !sides.dock(alloc, world, meter.tops, meter.entry)? {
         return Ok(Weighed {
             rank: None,
             ranks: None,
         });
     }
-    let given = given_rank(alloc, world, known, tops, entry)?;
+    let given = given_rank(alloc, world, known, meter.tops, meter.entry)?;
     if !reaches(bar, given) {
         return Ok(Weighed {
             rank: Some(given),
             ranks: None,
         });
     }
-    let regard = rank(alloc, world, world.resource_place(), tops, entry)?;
+    let regard = rank(
+        alloc,
+        world,
+        world.resource_place(),
+        meter.tops,
+        meter.entry,
+    )?;
     Ok(Weighed {
         rank: Some(given),
         ranks: Some(Ranks {

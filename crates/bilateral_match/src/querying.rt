@@ -18,7 +18,7 @@ use ad_candidates::candidates;
 use ad_store::Store;
 use ad_tree::Request;
 use literal_index::Index;
-use pool_steps::Steps;
+use pool_steps::{Meter, Steps};
 use pool_text::OutOfMemory;
 use std::alloc::Global;
 use std::sync::ledger::Ledger;
@@ -30,15 +30,15 @@ use std::sync::ledger::Ledger;
 /// Of the tests of the request the one that leaves the fewest ads says which ads are looked at; without one all are. It
 /// counts in `touch` each ad that is looked at, and in `tops` and `entry` what evaluations count: three at most for a dock
 /// that no test of either side decides, and none for any other.
-pub fn query<F: Ledger, E: Ledger, T: Ledger>(
+pub fn query<'a, F: Ledger, E: Ledger, T: Ledger>(
     alloc: Global,
     store: &Store,
     index: &Index,
     request: &Request,
     moment: u64,
-    tops: &mut Steps<F>,
-    entry: &mut Steps<E>,
-    touch: &mut Steps<T>,
+    tops: &'a mut Steps<F>,
+    entry: &'a mut Steps<E>,
+    touch: &'a mut Steps<T>,
 ) -> Result<Hits, OutOfMemory>
     requires index { IsIndex index.now (rows_of (stock_of store.now)) }
     requires single { request.now.ports ≡ [] }
@@ -51,7 +51,8 @@ pub fn query<F: Ledger, E: Ledger, T: Ledger>(
         + least_left (stock_of store.now).ads (tests_of (ad_frames request.now.ad) 0 []) }
 {
     let places = candidates(alloc, store, index, request)?;
-    let found = matches_at(alloc, store, request, moment, &places, tops, entry, touch)?;
+    let mut meter = Meter::new(tops, entry, touch);
+    let found = matches_at(alloc, store, request, moment, &places, &mut meter)?;
     hits_in_order(alloc, store, found)
 }
 

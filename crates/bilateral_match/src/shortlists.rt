@@ -11,20 +11,23 @@ ghost use Rattle.ad_candidates.specs.Counts.{least_left};
 ghost use Rattle.ad_candidates.specs.Rows.{rows_of};
 ghost use Rattle.dock_match.specs.Pool.{AreStored, pool_of, slot_at};
 ghost use Rattle.dock_match.specs.Small.{AreSmallAds, AreSmallHolders};
+ghost use Rattle.pool_steps.specs.Spent.{IsPaid, Spends};
 ghost use Rattle.bilateral_match.specs.Counts.{entered_for, open_count};
 ghost use Rattle.bilateral_match.specs.Members.{member_order};
 ghost use Rattle.bilateral_match.specs.Scan as scan;
+ghost use Rattle.bilateral_match.specs.Scenes.{pool_in, request_in, stock_in};
 ghost use Rattle.bilateral_match.specs.Shortlists.{AreInOrder, IsShortlist};
 
 use crate::known::Ranking;
 use crate::looks::Looks;
 use crate::member::Member;
 use crate::members::member_at;
+use crate::scene::Scene;
 use ad_candidates::candidates;
 use ad_store::{Holdings, Store};
 use ad_tree::Request;
 use literal_index::Index;
-use pool_steps::Steps;
+use pool_steps::{Meter, Steps};
 use pool_text::{OutOfMemory, Slots};
 use std::alloc::Global;
 use std::convert::AsSlice;
@@ -36,7 +39,7 @@ use std::sync::ledger::Ledger;
 /// HTCondor's negotiator do.
 ///
 /// It takes what `best` takes, and counts no more: each ad that is looked at is weighed once.
-pub fn shortlist<H: Holdings, F: Ledger, E: Ledger, T: Ledger>(
+pub fn shortlist<'a, H: Holdings, F: Ledger, E: Ledger, T: Ledger>(
     alloc: Global,
     store: &Store,
     index: &Index,
@@ -44,9 +47,9 @@ pub fn shortlist<H: Holdings, F: Ledger, E: Ledger, T: Ledger>(
     request: &Request,
     number: u64,
     moment: u64,
-    tops: &mut Steps<F>,
-    entry: &mut Steps<E>,
-    touch: &mut Steps<T>,
+    tops: &'a mut Steps<F>,
+    entry: &'a mut Steps<E>,
+    touch: &'a mut Steps<T>,
 ) -> Result<Slots, OutOfMemory>
     requires index { IsIndex index.now (rows_of (stock_of store.now)) }
     requires stored { AreStored (stock_of store.now) (H.holding held.now) }
@@ -62,10 +65,18 @@ pub fn shortlist<H: Holdings, F: Ledger, E: Ledger, T: Ledger>(
     ensures looks { touch.new ≤ touch.old
         + 9 * least_left (stock_of store.now).ads (tests_of (ad_frames request.now.ad) 0 []) }
 {
+    let scene = Scene {
+        alloc,
+        store,
+        index,
+        held,
+        request,
+        number,
+        moment,
+    };
+    let mut meter = Meter::new(tops, entry, touch);
     let places = candidates(alloc, store, index, request)?;
-    let found = members_at(
-        alloc, store, held, request, number, moment, &places, tops, entry, touch,
-    )?;
+    let found = members_at(&scene, &places, &mut meter)?;
     slots_in_order(alloc, store, found)
 }
 
@@ -82,49 +93,26 @@ fn slots_in_order(alloc: Global, store: &Store, found: Vec<Member>) -> Result<Sl
 
 // The members at these places, one after another.
 fn members_at<H: Holdings, F: Ledger, E: Ledger, T: Ledger>(
-    alloc: Global,
-    store: &Store,
-    held: &H,
-    request: &Request,
-    number: u64,
-    moment: u64,
+    scene: &Scene<'_, H>,
     places: &Slots,
-    tops: &mut Steps<F>,
-    entry: &mut Steps<E>,
-    touch: &mut Steps<T>,
+    meter: &mut Meter<'_, F, E, T>,
 ) -> Result<Vec<Member>, OutOfMemory>
-    requires stored { AreStored (stock_of store.now) (H.holding held.now) }
-    requires single { request.now.ports ≡ [] }
-    requires places { All (λ place. place < length (stock_of store.now).slots) places.now }
-    ensures found { IfOk result (λ found. found.items ≡ filter_map (scan.member_at
-        (pool_of moment (stock_of store.now) (H.is_offered held.now) (H.holding held.now)) (ad_frames request.now.ad) number) places.now) }
-    ensures evaluations { tops.new ≤ tops.old + sum_by (scan.evaluations_for (pool_of moment (stock_of store.now) (H.is_offered held.now) (H.holding held.now))
-        (ad_frames request.now.ad)) places.now }
-    ensures entries { entry.new ≤ entry.old + sum_by (scan.attributes_for (pool_of moment (stock_of store.now) (H.is_offered held.now) (H.holding held.now))
-        (ad_frames request.now.ad)) places.now }
-    ensures ratio { IsSmall (ad_frames request.now.ad) → AreSmallAds (stock_of store.now).ads → AreSmallHolders (H.holding held.now)
-        → entry.new + 9216 * tops.old ≤ entry.old + 9216 * tops.new }
-    ensures looks { touch.new ≤ touch.old + 9 * length places.now }
+    requires stored { AreStored (stock_in scene.now) (H.holding scene.now.held.now) }
+    requires single { scene.now.request.now.ports ≡ [] }
+    requires places { All (λ place. place < length (stock_in scene.now).slots) places.now }
+    ensures found { IfOk result (λ found. found.items ≡ filter_map
+        (scan.member_at (pool_in H.is_offered H.holding scene.now) (request_in scene.now) scene.now.number) places.now) }
+    ensures spent { Spends meter.old meter.new
+        (sum_by (scan.evaluations_for (pool_in H.is_offered H.holding scene.now) (request_in scene.now)) places.now)
+        (sum_by (scan.attributes_for (pool_in H.is_offered H.holding scene.now) (request_in scene.now)) places.now) (9 * length places.now) }
+    ensures ratio { IsSmall (request_in scene.now) → AreSmallAds (stock_in scene.now).ads → AreSmallHolders (H.holding scene.now.held.now)
+        → IsPaid meter.old meter.new }
 {
-    let mut found = Vec::new(alloc);
-    let mut ranking = Ranking::unknown(alloc);
+    let mut found = Vec::new(scene.alloc);
+    let mut ranking = Ranking::unknown(scene.alloc);
     let mut looks = Looks::none();
     for place in places.as_slice() {
-        let next = member_at(
-            alloc,
-            store,
-            held,
-            request,
-            number,
-            moment,
-            *place,
-            None,
-            &mut ranking,
-            &mut looks,
-            tops,
-            entry,
-            touch,
-        )?;
+        let next = member_at(scene, *place, None, &mut ranking, &mut looks, meter)?;
         keep(&mut found, next)?;
     }
     Ok(found)

@@ -9,6 +9,7 @@ ghost use Rattle.eval_scope.specs.Shown.{world_of};
 ghost use Rattle.eval_scope.specs.World.{attribute_count};
 ghost use Rattle.dock_match.specs.Docks as docks;
 ghost use Rattle.dock_match.specs.Small.{AreSmallAds};
+ghost use Rattle.pool_steps.specs.Spent.{IsPaid, Spends};
 ghost use Rattle.bilateral_match.specs.Counts.{attributes_most, evaluations_most};
 ghost use Rattle.bilateral_match.specs.Scan.{attributes_at, evaluations_at, match_at};
 
@@ -18,7 +19,7 @@ use ad_store::Store;
 use ad_tree::{Ad, Request};
 use dock_match::{OpenSides, open_sides};
 use eval_scope::World;
-use pool_steps::Steps;
+use pool_steps::{Meter, Steps};
 use pool_text::{OutOfMemory, Slots};
 use std::alloc::Global;
 use std::convert::AsSlice;
@@ -76,20 +77,18 @@ fn weigh<F: Ledger, E: Ledger, T: Ledger>(
     request: &Request,
     moment: u64,
     place: usize,
-    tops: &mut Steps<F>,
-    entry: &mut Steps<E>,
-    touch: &mut Steps<T>,
+    meter: &mut Meter<'_, F, E, T>,
 ) -> Result<Option<Match>, OutOfMemory>
     requires single { request.now.ports ≡ [] }
     requires held { place < length (stock_of store.now).slots }
     ensures found { IfOk result (λ found. found ≡ match_at moment (ad_frames request.now.ad) (stock_of store.now).ads place) }
-    ensures evaluations { tops.new ≤ tops.old + evaluations_at (ad_frames request.now.ad) (stock_of store.now).ads place }
-    ensures entries { entry.new ≤ entry.old + attributes_at moment (ad_frames request.now.ad) (stock_of store.now).ads place }
-    ensures ratio { IsSmall (ad_frames request.now.ad) → AreSmallAds (stock_of store.now).ads → entry.new + 9216 * tops.old ≤ entry.old + 9216 * tops.new }
-    ensures looks { touch.new ≡ touch.old + 1 }
+    ensures spent { Spends meter.old meter.new (evaluations_at (ad_frames request.now.ad) (stock_of store.now).ads place)
+        (attributes_at moment (ad_frames request.now.ad) (stock_of store.now).ads place) 1 }
+    ensures ratio { IsSmall (ad_frames request.now.ad) → AreSmallAds (stock_of store.now).ads → IsPaid meter.old meter.new }
+    ensures looks { meter.new.touch.now ≡ meter.old.touch.now + 1 }
 {
-    let ad = store.look(store.at(place), touch);
-    let Some(rank) = ranked(alloc, request, ad, moment, tops, entry)? else {
+    let ad = store.look(store.at(place), meter.touch);
+    let Some(rank) = ranked(alloc, request, ad, moment, meter.tops, meter.entry)? else {
         return Ok(None);
     };
     Ok(Some(Match { place, rank }))
@@ -102,22 +101,19 @@ pub fn matches_at<F: Ledger, E: Ledger, T: Ledger>(
     request: &Request,
     moment: u64,
     places: &Slots,
-    tops: &mut Steps<F>,
-    entry: &mut Steps<E>,
-    touch: &mut Steps<T>,
+    meter: &mut Meter<'_, F, E, T>,
 ) -> Result<Vec<Match>, OutOfMemory>
     requires single { request.now.ports ≡ [] }
     requires held { All (λ place. place < length (stock_of store.now).slots) places.now }
     ensures found { IfOk result (λ found. found.items
         ≡ filter_map (match_at moment (ad_frames request.now.ad) (stock_of store.now).ads) places.now) }
-    ensures evaluations { tops.new ≤ tops.old + sum_by (evaluations_at (ad_frames request.now.ad) (stock_of store.now).ads) places.now }
-    ensures entries { entry.new ≤ entry.old + sum_by (attributes_at moment (ad_frames request.now.ad) (stock_of store.now).ads) places.now }
-    ensures ratio { IsSmall (ad_frames request.now.ad) → AreSmallAds (stock_of store.now).ads → entry.new + 9216 * tops.old ≤ entry.old + 9216 * tops.new }
-    ensures looks { touch.new ≤ touch.old + length places.now }
+    ensures spent { Spends meter.old meter.new (sum_by (evaluations_at (ad_frames request.now.ad) (stock_of store.now).ads) places.now)
+        (sum_by (attributes_at moment (ad_frames request.now.ad) (stock_of store.now).ads) places.now) (length places.now) }
+    ensures ratio { IsSmall (ad_frames request.now.ad) → AreSmallAds (stock_of store.now).ads → IsPaid meter.old meter.new }
 {
     let mut found = Vec::new(alloc);
     for place in places.as_slice() {
-        let weighed = weigh(alloc, store, request, moment, *place, tops, entry, touch)?;
+        let weighed = weigh(alloc, store, request, moment, *place, meter)?;
         keep(&mut found, weighed)?;
     }
     Ok(found)

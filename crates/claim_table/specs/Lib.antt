@@ -5,6 +5,7 @@ pub mod Holders
 pub mod Jobs
 pub mod Kept
 pub mod Priorities
+pub mod Scenes
 pub mod Settings
 pub mod Small
 pub mod Table

@@ -1,6 +1,7 @@
 // Claims: what is offered to a job is checked anew before the job has it.
 ghost use Rattle.std.specs.Prelude.{◌≡◌, ◌≤◌, ◌<◌, ◌+◌, ◌*◌, All, Contains, IfOk, OnErr, OnOk, None, Some, length, option_map, slice_get, if◌then◌else◌};
 ghost use Rattle.std.specs.Option.{option_map_or};
+ghost use Rattle.pool_steps.specs.Spent.{IsPaid, Spends};
 ghost use Rattle.ad_tree.specs.Ad.{ad_frames};
 ghost use Rattle.ad_tree.specs.Small.{IsSmall};
 ghost use Rattle.ad_store.specs.Store.{stock_of};
@@ -15,18 +16,20 @@ ghost use Rattle.claim_table.specs.declared.job.Stage.{Stage};
 ghost use Rattle.claim_table.specs.Claims as claims;
 ghost use Rattle.claim_table.specs.Holders.{holder_of};
 ghost use Rattle.claim_table.specs.Jobs.{claimed_by, offer_of, slots_of, state_of, with_standing};
+ghost use Rattle.claim_table.specs.Scenes.{settings_in, stock_in};
 ghost use Rattle.claim_table.specs.Settings.{settings_of};
 ghost use Rattle.claim_table.specs.Small.{AreSmallJobs};
 ghost use Rattle.claim_table.specs.Table.{jobs_of};
 
 use crate::notes::put;
-use crate::{ClaimFault, ClaimTable, FreedList, Job, JobState, Priorities, Stage, Standing};
+use crate::scene::Scene;
+use crate::{ClaimFault, ClaimTable, FreedList, JobState, Priorities, Stage, Standing};
 use ad_eval::rank;
 use ad_store::{Holdings, Store};
-use ad_tree::{Ad, Request};
+use ad_tree::Ad;
 use dock_match::{open_sides, won_from};
 use eval_scope::World;
-use pool_steps::Steps;
+use pool_steps::{Meter, Steps};
 use pool_text::{OutOfMemory, Slots};
 use std::convert::AsSlice;
 use std::sync::ledger::Ledger;
@@ -45,15 +48,15 @@ impl ClaimTable {
     ///
     /// It counts in `tops` four at most for each dock of the offer that no test decides, in `entry` what these evaluations
     /// enter, and in `touch` nine at most for each resource: its look, and those at the holder's resources.
-    pub fn claim<F: Ledger, E: Ledger, T: Ledger>(
+    pub fn claim<'a, F: Ledger, E: Ledger, T: Ledger>(
         &mut self,
         store: &Store,
         priorities: &Priorities,
         name: &[u8],
         moment: u64,
-        tops: &mut Steps<F>,
-        entry: &mut Steps<E>,
-        touch: &mut Steps<T>,
+        tops: &'a mut Steps<F>,
+        entry: &'a mut Steps<E>,
+        touch: &'a mut Steps<T>,
     ) -> Result<FreedList, ClaimFault>
         requires { All (λ job. All (Contains (stock_of store.now).slots) (slots_of job.standing)) (jobs_of self.old) }
         ensures claim { claims.IsClaimed result (jobs_of self.old) (jobs_of self.new)
@@ -72,9 +75,15 @@ impl ClaimTable {
             return Err(ClaimFault::WrongState(state));
         }
         let number = priorities.get(job.user.bytes());
-        let Ok(failing) = self.first_failing(
-            store, priorities, job, number, moment, tops, entry, touch,
-        ) else {
+        let scene = Scene {
+            store,
+            priorities,
+            job,
+            number,
+            moment,
+        };
+        let mut meter = Meter::new(tops, entry, touch);
+        let Ok(failing) = self.first_failing(&scene, &mut meter) else {
             return Err(ClaimFault::OutOfMemory);
         };
         if let Some(slot) = failing {
@@ -87,40 +96,32 @@ impl ClaimTable {
         Ok(freed)
     }
 
-    // The slot of the first of the resources that are offered to a job that doesn't pass.
+    // The slot of the first of the resources that are offered to the job that doesn't pass.
     fn first_failing<F: Ledger, E: Ledger, T: Ledger>(
         &self,
-        store: &Store,
-        priorities: &Priorities,
-        job: &Job,
-        number: u64,
-        moment: u64,
-        tops: &mut Steps<F>,
-        entry: &mut Steps<E>,
-        touch: &mut Steps<T>,
+        scene: &Scene<'_>,
+        meter: &mut Meter<'_, F, E, T>,
     ) -> Result<Option<usize>, OutOfMemory>
-        requires stored { All (λ j. All (Contains (stock_of store.now).slots) (slots_of j.standing)) (jobs_of self.now) }
-        requires offered { All (Contains (stock_of store.now).slots) (offer_of job.now.standing) }
-        requires few { length (offer_of job.now.standing) ≤ 8 }
-        ensures failing { IfOk result (λ slot. slot ≡ claims.first_failing moment (stock_of store.now) (settings_of priorities.now) (jobs_of
-            self.now) number job.now.request (offer_of job.now.standing)) }
-        ensures evaluations { tops.new ≤ tops.old + 4 * claims.sum_over (λ slot world. if is_last_decided world then 0 else 1) moment (stock_of
-            store.now) job.now }
-        ensures entries { entry.new ≤ entry.old + claims.sum_over (claims.entered_in moment (stock_of store.now) (settings_of priorities.now)
-            (jobs_of self.now)) moment (stock_of store.now) job.now }
-        ensures ratio { IsSmall (ad_frames job.now.request.ad) → AreSmallAds (stock_of store.now).ads → AreSmallJobs (jobs_of self.now)
-            → entry.new + 9216 * tops.old ≤ entry.old + 9216 * tops.new }
-        ensures looks { touch.new ≤ touch.old + 9 * length (offer_of job.now.standing) }
+        requires stored { All (λ j. All (Contains (stock_in scene.now).slots) (slots_of j.standing)) (jobs_of self.now) }
+        requires offered { All (Contains (stock_in scene.now).slots) (offer_of scene.now.job.now.standing) }
+        requires few { length (offer_of scene.now.job.now.standing) ≤ 8 }
+        ensures failing { IfOk result (λ slot. slot ≡ claims.first_failing scene.now.moment (stock_in scene.now) (settings_in scene.now) (jobs_of
+            self.now) scene.now.number scene.now.job.now.request (offer_of scene.now.job.now.standing)) }
+        ensures spent { Spends meter.old meter.new
+            (4 * claims.sum_over (λ slot world. if is_last_decided world then 0 else 1) scene.now.moment (stock_in scene.now) scene.now.job.now)
+            (claims.sum_over (claims.entered_in scene.now.moment (stock_in scene.now) (settings_in scene.now) (jobs_of self.now)) scene.now.moment
+            (stock_in scene.now) scene.now.job.now)
+            (9 * length (offer_of scene.now.job.now.standing)) }
+        ensures ratio { IsSmall (ad_frames scene.now.job.now.request.ad) → AreSmallAds (stock_in scene.now).ads → AreSmallJobs (jobs_of self.now)
+            → IsPaid meter.old meter.new }
     {
-        let request = &job.request;
-        let slots = job.standing.offer();
-        let mut world = World::new(moment, &request.ad, &request.ports);
+        let request = &scene.job.request;
+        let slots = scene.job.standing.offer();
+        let mut world = World::new(scene.moment, &request.ad, &request.ports);
         for slot in slots {
-            let ad = store.look(*slot, touch);
+            let ad = scene.store.look(*slot, meter.touch);
             world.dock(ad);
-            if !self.passes(
-                store, priorities, request, number, *slot, ad, &world, moment, tops, entry, touch,
-            )? {
+            if !self.passes(scene, *slot, ad, &world, meter)? {
                 return Ok(Some(*slot));
             }
         }
@@ -130,77 +131,76 @@ impl ClaimTable {
     // Whether the resource in a slot, which was docked last, passes. Nothing is evaluated where a test decides the dock.
     fn passes<F: Ledger, E: Ledger, T: Ledger>(
         &self,
-        store: &Store,
-        priorities: &Priorities,
-        request: &Request,
-        number: u64,
+        scene: &Scene<'_>,
         slot: usize,
         ad: &Ad,
         world: &World<'_>,
-        moment: u64,
-        tops: &mut Steps<F>,
-        entry: &mut Steps<E>,
-        touch: &mut Steps<T>,
+        meter: &mut Meter<'_, F, E, T>,
     ) -> Result<bool, OutOfMemory>
-        requires stored { All (λ j. All (Contains (stock_of store.now).slots) (slots_of j.standing)) (jobs_of self.now) }
-        requires request { (world_of world.now).request ≡ ad_frames request.now.ad }
-        requires ports { (world_of world.now).ports ≡ request.now.ports }
+        requires stored { All (λ j. All (Contains (stock_in scene.now).slots) (slots_of j.standing)) (jobs_of self.now) }
+        requires request { (world_of world.now).request ≡ ad_frames scene.now.job.now.request.ad }
+        requires ports { (world_of world.now).ports ≡ scene.now.job.now.request.ports }
         requires docked { 0 < length (world_of world.now).docked }
         requires last { last_ad (world_of world.now) ≡ ad_frames ad.now }
-        ensures passes { IfOk result (λ b. b ≡ claims.passes moment (stock_of store.now) (settings_of priorities.now) (jobs_of self.now) number slot (world_of
-            world.now)) }
-        ensures evaluations { tops.new ≤ tops.old + 4 * (if is_last_decided (world_of world.now) then 0 else 1) }
-        ensures entries { entry.new ≤ entry.old + claims.entered_in moment (stock_of store.now) (settings_of priorities.now) (jobs_of self.now) slot (world_of
-            world.now) }
-        ensures ratio { AreSmall (world_of world.now) → AreSmallAds (stock_of store.now).ads → AreSmallJobs (jobs_of self.now)
-            → entry.new + 9216 * tops.old ≤ entry.old + 9216 * tops.new }
-        ensures looks { touch.new ≤ touch.old + 8 }
+        ensures passes { IfOk result (λ b. b ≡ claims.passes scene.now.moment (stock_in scene.now) (settings_in scene.now) (jobs_of self.now)
+            scene.now.number slot (world_of world.now)) }
+        ensures spent { Spends meter.old meter.new (4 * (if is_last_decided (world_of world.now) then 0 else 1))
+            (claims.entered_in scene.now.moment (stock_in scene.now) (settings_in scene.now) (jobs_of self.now) slot (world_of world.now)) 8 }
+        ensures ratio { AreSmall (world_of world.now) → AreSmallAds (stock_in scene.now).ads → AreSmallJobs (jobs_of self.now)
+            → IsPaid meter.old meter.new }
     {
+        let request = &scene.job.request;
         let Some(sides) = open_sides(self.alloc, request, world.request_place().frame, ad) else {
             return Ok(false);
         };
-        if !sides.dock(self.alloc, world, tops, entry)? {
+        if !sides.dock(self.alloc, world, meter.tops, meter.entry)? {
             return Ok(false);
         }
-        self.wins(
-            store, priorities, number, slot, world, moment, tops, entry, touch,
-        )
+        self.wins(scene, slot, world, meter)
     }
 
-    // Whether the resource in a slot, which was docked last, is taken for the job, whose user has this number.
+    // Whether the resource in a slot, which was docked last, is taken for the job.
     fn wins<F: Ledger, E: Ledger, T: Ledger>(
         &self,
-        store: &Store,
-        priorities: &Priorities,
-        number: u64,
+        scene: &Scene<'_>,
         slot: usize,
         world: &World<'_>,
-        moment: u64,
-        tops: &mut Steps<F>,
-        entry: &mut Steps<E>,
-        touch: &mut Steps<T>,
+        meter: &mut Meter<'_, F, E, T>,
     ) -> Result<bool, OutOfMemory>
-        requires { All (λ j. All (Contains (stock_of store.now).slots) (slots_of j.standing)) (jobs_of self.now) }
-        ensures won { IfOk result (λ b. b ≡ claims.is_won moment (stock_of store.now) (settings_of priorities.now) (jobs_of self.now) number slot (world_of
-            world.now)) }
-        ensures evaluations { tops.new ≤ tops.old + 2 }
-        ensures entries { entry.new ≤ entry.old + attribute_count (world_of world.now)
-            + option_map_or (λ holding. attribute_count (holder_world moment (stock_of store.now) holding)) (holder_of (settings_of priorities.now) (jobs_of self.now) slot) 0 }
-        ensures ratio { AreSmall (world_of world.now) → AreSmallAds (stock_of store.now).ads → AreSmallJobs (jobs_of self.now)
-            → entry.new + 9216 * tops.old ≤ entry.old + 9216 * tops.new }
-        ensures looks { touch.new ≤ touch.old + 8 }
+        requires { All (λ j. All (Contains (stock_in scene.now).slots) (slots_of j.standing)) (jobs_of self.now) }
+        ensures won { IfOk result (λ b. b ≡ claims.is_won scene.now.moment (stock_in scene.now) (settings_in scene.now) (jobs_of self.now)
+            scene.now.number slot (world_of world.now)) }
+        ensures spent { Spends meter.old meter.new 2 (attribute_count (world_of world.now)
+            + option_map_or (λ holding. attribute_count (holder_world scene.now.moment (stock_in scene.now) holding))
+            (holder_of (settings_in scene.now) (jobs_of self.now) slot) 0) 8 }
+        ensures ratio { AreSmall (world_of world.now) → AreSmallAds (stock_in scene.now).ads → AreSmallJobs (jobs_of self.now)
+            → IsPaid meter.old meter.new }
     {
         let standing = Standing {
             claims: self,
-            priorities,
+            priorities: scene.priorities,
         };
         let holder = standing.holder(slot);
         if holder.is_none() {
             return Ok(true);
         }
-        let regard = rank(self.alloc, world, world.resource_place(), tops, entry)?;
+        let regard = rank(
+            self.alloc,
+            world,
+            world.resource_place(),
+            meter.tops,
+            meter.entry,
+        )?;
         let won = won_from(
-            self.alloc, store, holder, regard, number, moment, tops, entry, touch,
+            self.alloc,
+            scene.store,
+            holder,
+            regard,
+            scene.number,
+            scene.moment,
+            meter.tops,
+            meter.entry,
+            meter.touch,
         )?;
         Ok(won.is_some())
     }

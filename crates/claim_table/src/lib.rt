@@ -8,6 +8,7 @@ mod job;
 mod job_list;
 mod notes;
 mod priorities;
+mod scene;
 mod table;
 
 pub use answers::{

@@ -1,5 +1,6 @@
 // Why a request matches the ads that it matches.
 ghost use Rattle.std.specs.Prelude.{◌≡◌, ◌≤◌, ◌+◌, ◌*◌, [], length, map, All, IfOk, OnOk};
+ghost use Rattle.pool_steps.specs.Spent.{IsPaid, IsSame};
 ghost use Rattle.ad_store.specs.Store.{stock_of};
 ghost use Rattle.ad_tree.specs.Ad.{ad_frames};
 ghost use Rattle.ad_tree.specs.Small.{IsSmall};
@@ -14,7 +15,7 @@ use crate::{Conjunct, Conjuncts, Report, Verdicts};
 use ad_printer::print_expr;
 use ad_store::Store;
 use ad_tree::Request;
-use pool_steps::Steps;
+use pool_steps::{Meter, Steps};
 use pool_text::OutOfMemory;
 use std::alloc::Global;
 use std::sync::ledger::Ledger;
@@ -24,14 +25,14 @@ use std::sync::ledger::Ledger;
 /// matter.
 ///
 /// It counts in `touch` one for each ad, and in `tops` one at most for each ad and conjunct of either side.
-pub fn explain<F: Ledger, E: Ledger, T: Ledger>(
+pub fn explain<'a, F: Ledger, E: Ledger, T: Ledger>(
     alloc: Global,
     store: &Store,
     request: &Request,
     moment: u64,
-    tops: &mut Steps<F>,
-    entry: &mut Steps<E>,
-    touch: &mut Steps<T>,
+    tops: &'a mut Steps<F>,
+    entry: &'a mut Steps<E>,
+    touch: &'a mut Steps<T>,
 ) -> Result<Report, OutOfMemory>
     requires { request.now.ports ≡ [] }
     ensures report { IfOk result (λ report. report ≡ why.explained moment (ad_frames request.now.ad) (stock_of store.now).ads) }
@@ -47,7 +48,8 @@ pub fn explain<F: Ledger, E: Ledger, T: Ledger>(
         moment,
     };
     let mut counts = zeros(alloc, &question.conjuncts)?;
-    let verdicts = verdicts(&question, store, &mut counts, tops, entry, touch)?;
+    let mut meter = Meter::new(tops, entry, touch);
+    let verdicts = verdicts(&question, store, &mut counts, &mut meter)?;
     let conjuncts = rows(&question, &counts)?;
     Ok(Report {
         conjuncts,
@@ -60,9 +62,7 @@ fn verdicts<F: Ledger, E: Ledger, T: Ledger>(
     question: &Question<'_>,
     store: &Store,
     counts: &mut [u64],
-    tops: &mut Steps<F>,
-    entry: &mut Steps<E>,
-    touch: &mut Steps<T>,
+    meter: &mut Meter<'_, F, E, T>,
 ) -> Result<Verdicts, OutOfMemory>
     requires single { question.now.request.now.ports ≡ [] }
     requires gathered { map (λ e. tree e.now) question.now.conjuncts.items ≡ conjuncts_at (ad_frames question.now.request.now.ad) 0 }
@@ -71,15 +71,17 @@ fn verdicts<F: Ledger, E: Ledger, T: Ledger>(
         IfOk result (λ verdicts. verdicts ≡ why.verdicts question.now.moment request (stock_of store.now).ads) }
     ensures counts { let request = ad_frames question.now.request.now.ad in
         OnOk result (counts.new ≡ map (why.holding question.now.moment request (stock_of store.now).ads) (conjuncts_at request 0)) }
-    ensures evaluations { tops.new ≤ tops.old + evaluations_most (ad_frames question.now.request.now.ad) (stock_of store.now).ads }
+    ensures same { IsSame meter.old meter.new }
+    ensures evaluations { meter.new.tops.now ≤ meter.old.tops.now
+        + evaluations_most (ad_frames question.now.request.now.ad) (stock_of store.now).ads }
     ensures ratio { IsSmall (ad_frames question.now.request.now.ad) → All (λ advert. IsSmall advert.ad) (stock_of store.now).ads
-        → entry.new + 9216 * tops.old ≤ entry.old + 9216 * tops.new }
-    ensures looks { touch.new ≤ touch.old + length (stock_of store.now).ads }
+        → IsPaid meter.old meter.new }
+    ensures looks { meter.new.touch.now ≤ meter.old.touch.now + length (stock_of store.now).ads }
 {
     let mut verdicts = Verdicts::new(question.alloc);
     for place in 0..store.len() {
-        let ad = store.look(store.at(place), touch);
-        let verdict = judge(question, ad, counts, tops, entry)?;
+        let ad = store.look(store.at(place), meter.touch);
+        let verdict = judge(question, ad, counts, meter.tops, meter.entry)?;
         verdicts.push(verdict)?;
     }
     Ok(verdicts)

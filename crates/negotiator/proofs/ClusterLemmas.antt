@@ -6,6 +6,7 @@ use Rattle.std.proofs.Math.Path.{fun_ext}
 use Rattle.std.proofs.lemmas.List.{take_all}
 use Rattle.std.proofs.lemmas.Option.{IfSome_then}
 use Rattle.std.proofs.lemmas.List.Elements.{All-head, All-nil, All-push, All-set, All-tail}
+use Rattle.pool_steps.specs.declared.meter.Meter.{Meter}
 use Rattle.ad_tree.specs.Ad.{ad_frames}
 use Rattle.ad_tree.specs.Frames.{Frame}
 use Rattle.ad_store.specs.Stock.{Stock}
@@ -26,7 +27,7 @@ use Rattle.negotiator.specs.declared.class.Ranked.{Ranked}
 use Rattle.negotiator.specs.declared.clusters.Clusters.{Clusters}
 use Rattle.negotiator.specs.declared.scene.Scene.{Scene}
 use Rattle.negotiator.specs.Budget.{is_idle_at}
-use Rattle.negotiator.specs.Clusters.{AreClusters, IsClass, IsRanked, is_offered}
+use Rattle.negotiator.specs.Clusters.{AreClusters, IsClass, IsRanked, counted_with, is_offered}
 use Rattle.negotiator.specs.Markets.{free_among, pool_for}
 use Rattle.negotiator.specs.Scenes.{settings_in, stock_in}
 use Rattle.negotiator.proofs.JobLemmas.{holder-later, offered-later}
@@ -173,9 +174,10 @@ pub same-clusters : (scene : Scene) {jobs later : List Job} {clusters after : Cl
     → AreClusters scene.moment (stock_in scene) (settings_in scene) later after
 same-clusters scene jobs_are clusters_are are = rw (jobs_are, clusters_are) are
 
--- looks that were made, with those that are saved
-pub with-saved : {made made2 saved saved2 : ℕ} → made2 ≡ made → saved2 ≡ saved → made2 + saved2 ≡ made + saved
-with-saved made_is saved_is = rw (made_is, saved_is) refl
+-- what was counted, under other names
+pub counted-same : {F E T : Type 0} {meter meter2 : Meter F E T} {clusters clusters2 : Clusters} → meter2 ≡ meter → clusters2 ≡ clusters
+    → counted_with meter2 clusters2 ≡ counted_with meter clusters
+counted-same meter_is clusters_are = rw (meter_is, clusters_are) refl
 
 -- ---- one more offer
 

@@ -15,7 +15,7 @@ use Rattle.claim_table.specs.Jobs.{wanted, with_standing}
 use Rattle.negotiator.specs.declared.answers.Offered.{Offered}
 use Rattle.negotiator.specs.declared.queues.Queue.{Queue}
 use Rattle.negotiator.specs.declared.scene.Scene.{Scene}
-use Rattle.negotiator.specs.Budget.{ArePaid, Counts, counts, is_due, is_idle_at, is_marked}
+use Rattle.negotiator.specs.Budget.{ArePaid, Counts, is_due, is_idle_at, is_marked}
 use Rattle.negotiator.specs.Cycle.{Market, Offer, is_of, is_waiting, places, turn, waits, wants_of}
 use Rattle.negotiator.specs.Markets.{IsPart, found, name_at, offer_named, waiting_of, with_offers}
 use Rattle.negotiator.specs.Queues.{IsAhead}
@@ -95,13 +95,12 @@ module _ (scene : Scene) (began : List Job) where
 
   -- the same under other names
   pub loop-same : {user : List ℕ} {is : List ℕ} {slice : ℕ} {marks : List Bool} {before : Counts} {k left left2 : ℕ} {given given2 : Bool}
-      {offers offers2 : List Offered} {jobs jobs2 : List Job} {failed failed2 : List Bool} {tops tops2 entry entry2 touch touch2 : ℕ}
-      → TurnLoop user is slice marks before k left given offers jobs failed (counts tops entry touch)
-      → left2 ≡ left → given2 ≡ given → offers2 ≡ offers → jobs2 ≡ jobs → failed2 ≡ failed → tops2 ≡ tops → entry2 ≡ entry
-      → touch2 ≡ touch
-      → TurnLoop user is slice marks before k left2 given2 offers2 jobs2 failed2 (counts tops2 entry2 touch2)
-  loop-same loop left_is given_is offers_are jobs_are failed_is tops_is entry_is touch_is =
-      rw (left_is, given_is, offers_are, jobs_are, failed_is, tops_is, entry_is, touch_is) loop
+      {offers offers2 : List Offered} {jobs jobs2 : List Job} {failed failed2 : List Bool} {now now2 : Counts}
+      → TurnLoop user is slice marks before k left given offers jobs failed now
+      → left2 ≡ left → given2 ≡ given → offers2 ≡ offers → jobs2 ≡ jobs → failed2 ≡ failed → now2 ≡ now
+      → TurnLoop user is slice marks before k left2 given2 offers2 jobs2 failed2 now2
+  loop-same loop left_is given_is offers_are jobs_are failed_is now_is =
+      rw (left_is, given_is, offers_are, jobs_are, failed_is, now_is) loop
 
   module _ {user : List ℕ} {is : List ℕ} {slice : ℕ} {marks : List Bool} {before : Counts} {k left : ℕ} {given : Bool} {offers : List Offered}
       {jobs : List Job} {failed : List Bool} {now : Counts}

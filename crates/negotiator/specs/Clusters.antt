@@ -1,5 +1,6 @@
 -- What is known of the classes of jobs in a cycle, and stays known while more is offered.
-use Rattle.std.specs.Prelude.{◌≡◌, ◌≤◌, ◌^◌, ℕ, Bool, true, List, All, IfSome, is_some, take}
+use Rattle.std.specs.Prelude.{◌≡◌, ◌≤◌, ◌^◌, ◌+◌, ℕ, Bool, true, List, All, IfSome, is_some, take}
+use Rattle.pool_steps.specs.declared.meter.Meter.{Meter}
 use Rattle.ad_tree.specs.Ad.{ad_frames}
 use Rattle.ad_tree.specs.Frames.{Frame}
 use Rattle.ad_store.specs.Stock.{Stock}
@@ -14,6 +15,7 @@ use Rattle.significant_attrs.specs.Twins.{AreAllMarked}
 use Rattle.negotiator.specs.declared.class.Class.{Class}
 use Rattle.negotiator.specs.declared.class.Ranked.{Ranked}
 use Rattle.negotiator.specs.declared.clusters.Clusters.{Clusters}
+use Rattle.negotiator.specs.Budget.{Counts, counts}
 use Rattle.negotiator.specs.Markets.{free_among}
 
 abbrev pub is_offered : List Job → ℕ → Bool
@@ -37,3 +39,7 @@ pub record AreClusters (moment : ℕ) (stock : Stock) (settings : List Setting) 
   pub known : AreKnown moment stock.ads clusters.known
   pub free : clusters.free ≡ free_among stock jobs
   pub few : clusters.free ≤ 10 ^ 4
+
+-- what a meter counted, where the looks that the clusters saved count as spent
+abbrev pub counted_with : {F E T : Type 0} → Meter F E T → Clusters → Counts
+counted_with meter clusters = counts meter.tops.now meter.entry.now (meter.touch.now + clusters.looks.saved)

@@ -1,21 +1,25 @@
 -- What the searches of a cycle stand on.
-use Rattle.std.specs.Prelude.{◌≡◌, ◌≤◌, ℕ, Bool, List, [], All, length, map, slice_get}
+use Rattle.std.specs.Prelude.{◌≡◌, ◌≤◌, ℕ, Bool, List, [], All, false, length, map, slice_get}
 use Rattle.std.specs.Option.{option_map_or}
 use Rattle.ad_tree.specs.Ad.{ad_frames}
 use Rattle.ad_store.specs.Stock.{Stock}
 use Rattle.ad_store.specs.Store.{stock_of}
 use Rattle.ad_candidates.specs.Rows.{rows_of}
-use Rattle.dock_match.specs.Pool.{AreStored}
+use Rattle.dock_match.specs.Pool.{AreStored, Pool}
 use Rattle.claim_table.specs.declared.job.Job.{Job}
 use Rattle.claim_table.specs.Holders.{holder_of}
 use Rattle.claim_table.specs.Jobs.{jobs_limit}
 use Rattle.claim_table.specs.Priorities.{Setting}
+use Rattle.claim_table.specs.Table.{jobs_of}
 use Rattle.literal_index.specs.Shown.{IsIndex}
 use Rattle.negotiator.specs.declared.queues.Queue.{Queue}
 use Rattle.negotiator.specs.declared.scene.Scene.{Scene}
+use Rattle.negotiator.specs.declared.seeker.Seeker.{Seeker}
+use Rattle.negotiator.specs.declared.shares.Share.{Share}
+use Rattle.negotiator.specs.declared.shares.Shares.{Shares}
 use Rattle.negotiator.specs.Budget.{AreFailing}
-use Rattle.negotiator.specs.Cycle.{Market}
-use Rattle.negotiator.specs.Markets.{AreOwn, market_of}
+use Rattle.negotiator.specs.Cycle.{Market, Offer, PlainTurn, places, turn, turns}
+use Rattle.negotiator.specs.Markets.{AreOwn, market_of, pool_for}
 use Rattle.claim_table.specs.Settings.{settings_of}
 
 abbrev pub stock_in : Scene → Stock
@@ -26,6 +30,14 @@ settings_in scene = settings_of scene.priorities.now
 
 abbrev pub market_in : Scene → List Job → Market ℕ
 market_in scene jobs = market_of scene.moment (stock_in scene) (settings_in scene) jobs
+
+-- the resources of the scene as the jobs hold them
+abbrev pub pool_in : Scene → List Job → Pool
+pool_in scene jobs = pool_for scene.moment (stock_in scene) (settings_in scene) jobs
+
+-- the jobs among which one seeks a resource
+abbrev pub jobs_around : Seeker → List Job
+jobs_around seeker = jobs_of seeker.claims.now
 
 -- the index is that of the store, what is claimed is in the store, each job has no ports or those that its ad lists, and jobs that are marked find nothing
 pub record IsReady (scene : Scene) (jobs : List Job) (failed : List Bool) : Type 0 where
@@ -39,3 +51,10 @@ pub record IsReady (scene : Scene) (jobs : List Job) (failed : List Bool) : Type
 -- the users of the queues of these numbers
 abbrev pub users_at : List Queue → List ℕ → List (List ℕ)
 users_at queues numbers = map (λ k. option_map_or (λ queue. queue.user) (slice_get queues k) []) numbers
+
+-- the offers of a user's turn, and the turns of a spin, where the jobs stand so as it begins
+abbrev pub turn_in : Scene → List Job → Share → List (Offer ℕ)
+turn_in scene jobs share = turn (market_in scene jobs) share.queue.now.user (places (market_in scene jobs).jobs) share.slice false []
+
+abbrev pub turns_in : Scene → List Job → Shares → List (PlainTurn ℕ)
+turns_in scene jobs shares = turns (market_in scene jobs) (users_at shares.queues.now shares.active.now) shares.slices.now []

@@ -1,5 +1,6 @@
 // Classes of jobs: jobs without ports that no ad of the store tells apart, and whose users have the same number.
 ghost use Rattle.std.specs.Prelude.{◌≡◌, ◌≤◌, ◌+◌, ◌*◌, [], false, true, All, IfOk, IfSome, IsTrue, Some, option_map, slice_get, take};
+ghost use Rattle.pool_steps.specs.Spent.{IsPaid, IsSame, Spends};
 ghost use Rattle.ad_tree.specs.Ad.{ad_frames};
 ghost use Rattle.ad_candidates.specs.Counts.{least_left};
 ghost use Rattle.ad_candidates.specs.Rows.{rows_of};
@@ -16,14 +17,13 @@ ghost use Rattle.conjunct_plan.specs.Tests.{tests_of};
 ghost use Rattle.literal_index.specs.Shown.{IsIndex};
 ghost use Rattle.significant_attrs.specs.Twins.{AreTwins};
 ghost use Rattle.negotiator.specs.Clusters.{IsClass, IsRanked, is_offered};
-ghost use Rattle.negotiator.specs.Markets.{pool_for};
-ghost use Rattle.negotiator.specs.Scenes.{settings_in, stock_in};
+ghost use Rattle.negotiator.specs.Scenes.{jobs_around, pool_in, settings_in, stock_in};
 
-use crate::{Scene, twins_are_matched_alike};
+use crate::{Scene, Seeker, twins_are_matched_alike};
 use ad_tree::{Ad, Request};
 use bilateral_match::{Known, Looks, best_knowing, shortlist};
 use claim_table::{ClaimTable, Standing};
-use pool_steps::Steps;
+use pool_steps::Meter;
 use pool_text::{OutOfMemory, Slots};
 use significant_attrs::are_twins;
 use std::convert::AsSlice;
@@ -98,98 +98,81 @@ impl Class {
         self.places = looks.places;
     }
 
-    /// The best resource for job `i`, which is of the class.
+    /// The best resource for a job that is of the class.
     pub(crate) fn choose<F: Ledger, E: Ledger, T: Ledger>(
         &mut self,
         scene: &Scene<'_>,
-        claims: &ClaimTable,
-        i: usize,
-        request: &Request,
+        seeker: &Seeker<'_>,
         known: &mut Known,
         looks: &mut Looks,
-        tops: &mut Steps<F>,
-        entry: &mut Steps<E>,
-        touch: &mut Steps<T>,
+        meter: &mut Meter<'_, F, E, T>,
     ) -> Result<Option<usize>, OutOfMemory>
         requires index { IsIndex scene.now.index.now (rows_of (stock_in scene.now)) }
-        requires stored { AreStored (stock_in scene.now) (holder_of (settings_in scene.now) (jobs_of claims.now)) }
-        requires job { option_map (λ job. job.request) (slice_get (jobs_of claims.now) i) ≡ Some request.now }
-        requires single { request.now.ports ≡ [] }
+        requires stored { AreStored (stock_in scene.now) (holder_of (settings_in scene.now) (jobs_around seeker.now)) }
+        requires job { option_map (λ job. job.request) (slice_get (jobs_around seeker.now) seeker.now.place) ≡ Some seeker.now.request.now }
+        requires single { seeker.now.request.now.ports ≡ [] }
         requires known { AreKnown scene.now.moment (stock_in scene.now).ads known.old }
-        requires class { IsClass scene.now.moment (stock_in scene.now) (settings_in scene.now) (jobs_of claims.now) self.old }
-        requires twins { AreTwins self.old.marks.items (ad_frames self.old.ad) (ad_frames request.now.ad) }
-        ensures best { IfOk result (λ slot. slot ≡ best_slot (stock_in scene.now) (pool_for scene.now.moment (stock_in scene.now) (settings_in scene.now)
-            (jobs_of claims.now)) (ad_frames request.now.ad) self.old.number) }
-        ensures free { IfOk result (λ slot. IfSome slot (λ s. is_offered (jobs_of claims.now) s ≡ false)) }
+        requires class { IsClass scene.now.moment (stock_in scene.now) (settings_in scene.now) (jobs_around seeker.now) self.old }
+        requires twins { AreTwins self.old.marks.items (ad_frames self.old.ad) (ad_frames seeker.now.request.now.ad) }
+        ensures best { IfOk result (λ slot. slot
+            ≡ best_slot (stock_in scene.now) (pool_in scene.now (jobs_around seeker.now)) (ad_frames seeker.now.request.now.ad) self.old.number) }
+        ensures free { IfOk result (λ slot. IfSome slot (λ s. is_offered (jobs_around seeker.now) s ≡ false)) }
         ensures known { AreKnown scene.now.moment (stock_in scene.now).ads known.new }
-        ensures class { IsClass scene.now.moment (stock_in scene.now) (settings_in scene.now) (jobs_of claims.now) self.new }
-        ensures evaluations { tops.new ≤ tops.old + 5 * open_count (pool_for scene.now.moment (stock_in scene.now) (settings_in scene.now)
-            (jobs_of claims.now)) (ad_frames request.now.ad) }
-        ensures entries { entry.new ≤ entry.old + entered_for (pool_for scene.now.moment (stock_in scene.now) (settings_in scene.now)
-            (jobs_of claims.now)) (ad_frames request.now.ad) }
-        ensures ratio { AreSmallAds (stock_in scene.now).ads → AreSmallJobs (jobs_of claims.now) → entry.new + 9216 * tops.old ≤ entry.old + 9216 * tops.new }
-        ensures looks { touch.new + looks.new.saved ≤ touch.old + looks.old.saved + 9 * least_left (stock_in scene.now).ads (tests_of (ad_frames request.now.ad)
-            0 []) }
+        ensures class { IsClass scene.now.moment (stock_in scene.now) (settings_in scene.now) (jobs_around seeker.now) self.new }
+        ensures same { IsSame meter.old meter.new }
+        ensures evaluations { meter.new.tops.now
+            ≤ meter.old.tops.now + 5 * open_count (pool_in scene.now (jobs_around seeker.now)) (ad_frames seeker.now.request.now.ad) }
+        ensures entries { meter.new.entry.now
+            ≤ meter.old.entry.now + entered_for (pool_in scene.now (jobs_around seeker.now)) (ad_frames seeker.now.request.now.ad) }
+        ensures ratio { AreSmallAds (stock_in scene.now).ads → AreSmallJobs (jobs_around seeker.now) → IsPaid meter.old meter.new }
+        ensures looks { meter.new.touch.now + looks.new.saved ≤ meter.old.touch.now + looks.old.saved
+            + 9 * least_left (stock_in scene.now).ads (tests_of (ad_frames seeker.now.request.now.ad) 0 []) }
     {
-        twins_are_matched_alike(&self.ad, &request.ad);
+        twins_are_matched_alike(&self.ad, &seeker.request.ad);
         if let Some(ranked) = &mut self.ranked {
-            return Ok(ranked.first(claims));
+            return Ok(ranked.first(seeker.claims));
         }
         if self.weighed < self.places {
-            let slot = search_alone(
-                scene,
-                claims,
-                i,
-                request,
-                self.number,
-                known,
-                looks,
-                tops,
-                entry,
-                touch,
-            )?;
+            let slot = search_alone(scene, seeker, self.number, known, looks, meter)?;
             self.note(looks);
             return Ok(slot);
         }
-        let mut ranked = rank(scene, claims, i, request, self.number, tops, entry, touch)?;
-        let slot = ranked.first(claims);
+        let mut ranked = rank(scene, seeker, self.number, meter)?;
+        let slot = ranked.first(seeker.claims);
         self.ranked = Some(ranked);
         Ok(slot)
     }
 }
 
-/// The best resource for job `i`, whose request has no ports, and whose user has this number, by a search of its own.
+/// The best resource for a job whose user has this number, by a search of its own.
 pub(crate) fn search_alone<F: Ledger, E: Ledger, T: Ledger>(
     scene: &Scene<'_>,
-    claims: &ClaimTable,
-    i: usize,
-    request: &Request,
+    seeker: &Seeker<'_>,
     number: u64,
     known: &mut Known,
     looks: &mut Looks,
-    tops: &mut Steps<F>,
-    entry: &mut Steps<E>,
-    touch: &mut Steps<T>,
+    meter: &mut Meter<'_, F, E, T>,
 ) -> Result<Option<usize>, OutOfMemory>
     requires index { IsIndex scene.now.index.now (rows_of (stock_in scene.now)) }
-    requires stored { AreStored (stock_in scene.now) (holder_of (settings_in scene.now) (jobs_of claims.now)) }
-    requires job { option_map (λ job. job.request) (slice_get (jobs_of claims.now) i) ≡ Some request.now }
-    requires single { request.now.ports ≡ [] }
+    requires stored { AreStored (stock_in scene.now) (holder_of (settings_in scene.now) (jobs_around seeker.now)) }
+    requires job { option_map (λ job. job.request) (slice_get (jobs_around seeker.now) seeker.now.place) ≡ Some seeker.now.request.now }
+    requires single { seeker.now.request.now.ports ≡ [] }
     requires known { AreKnown scene.now.moment (stock_in scene.now).ads known.old }
-    ensures best { IfOk result (λ slot. slot ≡ best_slot (stock_in scene.now) (pool_for scene.now.moment (stock_in scene.now) (settings_in scene.now)
-        (jobs_of claims.now)) (ad_frames request.now.ad) number) }
-    ensures free { IfOk result (λ slot. IfSome slot (λ s. is_offered (jobs_of claims.now) s ≡ false)) }
+    ensures best { IfOk result (λ slot. slot
+        ≡ best_slot (stock_in scene.now) (pool_in scene.now (jobs_around seeker.now)) (ad_frames seeker.now.request.now.ad) number) }
+    ensures free { IfOk result (λ slot. IfSome slot (λ s. is_offered (jobs_around seeker.now) s ≡ false)) }
     ensures known { AreKnown scene.now.moment (stock_in scene.now).ads known.new }
-    ensures evaluations { tops.new ≤ tops.old + 5 * open_count (pool_for scene.now.moment (stock_in scene.now) (settings_in scene.now)
-        (jobs_of claims.now)) (ad_frames request.now.ad) }
-    ensures entries { entry.new ≤ entry.old + entered_for (pool_for scene.now.moment (stock_in scene.now) (settings_in scene.now)
-        (jobs_of claims.now)) (ad_frames request.now.ad) }
-    ensures ratio { AreSmallAds (stock_in scene.now).ads → AreSmallJobs (jobs_of claims.now) → entry.new + 9216 * tops.old ≤ entry.old + 9216 * tops.new }
-    ensures looks { touch.new + looks.new.saved ≤ touch.old + looks.old.saved + 9 * least_left (stock_in scene.now).ads (tests_of (ad_frames request.now.ad) 0
-        []) }
+    ensures same { IsSame meter.old meter.new }
+    ensures evaluations { meter.new.tops.now
+        ≤ meter.old.tops.now + 5 * open_count (pool_in scene.now (jobs_around seeker.now)) (ad_frames seeker.now.request.now.ad) }
+    ensures entries { meter.new.entry.now
+        ≤ meter.old.entry.now + entered_for (pool_in scene.now (jobs_around seeker.now)) (ad_frames seeker.now.request.now.ad) }
+    ensures ratio { AreSmallAds (stock_in scene.now).ads → AreSmallJobs (jobs_around seeker.now) → IsPaid meter.old meter.new }
+    ensures looks { meter.new.touch.now + looks.new.saved ≤ meter.old.touch.now + looks.old.saved
+        + 9 * least_left (stock_in scene.now).ads (tests_of (ad_frames seeker.now.request.now.ad) 0 []) }
 {
     let standing = Standing {
-        claims,
+        claims: seeker.claims,
         priorities: scene.priorities,
     };
     best_knowing(
@@ -197,43 +180,38 @@ pub(crate) fn search_alone<F: Ledger, E: Ledger, T: Ledger>(
         scene.store,
         scene.index,
         &standing,
-        request,
+        seeker.request,
         number,
         scene.moment,
         known,
         looks,
-        tops,
-        entry,
-        touch,
+        meter.tops,
+        meter.entry,
+        meter.touch,
     )
 }
 
-// The resources for job `i`, whose request has no ports, and whose user has this number, in order.
+// The resources for a job whose user has this number, in order.
 fn rank<F: Ledger, E: Ledger, T: Ledger>(
     scene: &Scene<'_>,
-    claims: &ClaimTable,
-    i: usize,
-    request: &Request,
+    seeker: &Seeker<'_>,
     number: u64,
-    tops: &mut Steps<F>,
-    entry: &mut Steps<E>,
-    touch: &mut Steps<T>,
+    meter: &mut Meter<'_, F, E, T>,
 ) -> Result<Ranked, OutOfMemory>
     requires index { IsIndex scene.now.index.now (rows_of (stock_in scene.now)) }
-    requires stored { AreStored (stock_in scene.now) (holder_of (settings_in scene.now) (jobs_of claims.now)) }
-    requires job { option_map (λ job. job.request) (slice_get (jobs_of claims.now) i) ≡ Some request.now }
-    requires single { request.now.ports ≡ [] }
-    ensures ranked { IfOk result (IsRanked scene.now.moment (stock_in scene.now) (settings_in scene.now) (jobs_of claims.now) (ad_frames request.now.ad)
-        number) }
-    ensures evaluations { tops.new ≤ tops.old + 5 * open_count (pool_for scene.now.moment (stock_in scene.now) (settings_in scene.now)
-        (jobs_of claims.now)) (ad_frames request.now.ad) }
-    ensures entries { entry.new ≤ entry.old + entered_for (pool_for scene.now.moment (stock_in scene.now) (settings_in scene.now)
-        (jobs_of claims.now)) (ad_frames request.now.ad) }
-    ensures ratio { AreSmallAds (stock_in scene.now).ads → AreSmallJobs (jobs_of claims.now) → entry.new + 9216 * tops.old ≤ entry.old + 9216 * tops.new }
-    ensures looks { touch.new ≤ touch.old + 9 * least_left (stock_in scene.now).ads (tests_of (ad_frames request.now.ad) 0 []) }
+    requires stored { AreStored (stock_in scene.now) (holder_of (settings_in scene.now) (jobs_around seeker.now)) }
+    requires job { option_map (λ job. job.request) (slice_get (jobs_around seeker.now) seeker.now.place) ≡ Some seeker.now.request.now }
+    requires single { seeker.now.request.now.ports ≡ [] }
+    ensures ranked { IfOk result (IsRanked scene.now.moment (stock_in scene.now) (settings_in scene.now) (jobs_around seeker.now)
+        (ad_frames seeker.now.request.now.ad) number) }
+    ensures spent { Spends meter.old meter.new
+        (5 * open_count (pool_in scene.now (jobs_around seeker.now)) (ad_frames seeker.now.request.now.ad))
+        (entered_for (pool_in scene.now (jobs_around seeker.now)) (ad_frames seeker.now.request.now.ad))
+        (9 * least_left (stock_in scene.now).ads (tests_of (ad_frames seeker.now.request.now.ad) 0 [])) }
+    ensures ratio { AreSmallAds (stock_in scene.now).ads → AreSmallJobs (jobs_around seeker.now) → IsPaid meter.old meter.new }
 {
     let standing = Standing {
-        claims,
+        claims: seeker.claims,
         priorities: scene.priorities,
     };
     let slots = shortlist(
@@ -241,12 +219,12 @@ fn rank<F: Ledger, E: Ledger, T: Ledger>(
         scene.store,
         scene.index,
         &standing,
-        request,
+        seeker.request,
         number,
         scene.moment,
-        tops,
-        entry,
-        touch,
+        meter.tops,
+        meter.entry,
+        meter.touch,
     )?;
     Ok(Ranked { slots, passed: 0 })
 }

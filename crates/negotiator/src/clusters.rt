@@ -1,5 +1,6 @@
 // What the jobs of a cycle share: the jobs of a class one list of resources, and all jobs what is known of ranks and tests.
 ghost use Rattle.std.specs.Prelude.{◌≡◌, ◌<◌, ◌≤◌, ◌+◌, ◌*◌, ℕ, List, [], false, IfOk, IfSome, None, Some, length, option_map, slice_get};
+ghost use Rattle.pool_steps.specs.Spent.{IsPaid, IsSame};
 ghost use Rattle.ad_tree.specs.Ad.{ad_frames};
 ghost use Rattle.ad_store.specs.Stock.{Advert, Stock};
 ghost use Rattle.ad_candidates.specs.Counts.{least_left};
@@ -20,15 +21,14 @@ ghost use Rattle.significant_attrs.specs.Shown.{HasReadAds, ads_in};
 ghost use Rattle.significant_attrs.specs.Twins.{AreAllMarked, AreTwins};
 ghost use Rattle.negotiator.specs.declared.class.Class.{Class};
 ghost use Rattle.negotiator.specs.Clusters.{AreClusters, is_offered};
-ghost use Rattle.negotiator.specs.Markets.{pool_for};
-ghost use Rattle.negotiator.specs.Scenes.{settings_in, stock_in};
+ghost use Rattle.negotiator.specs.Scenes.{jobs_around, pool_in, settings_in, stock_in};
 
 use crate::class::search_alone;
-use crate::{Class, Scene};
+use crate::{Class, Scene, Seeker};
 use ad_tree::Request;
 use bilateral_match::{Known, Looks};
 use claim_table::ClaimTable;
-use pool_steps::Steps;
+use pool_steps::{Meter, Steps};
 use pool_text::OutOfMemory;
 use significant_attrs::{Reach, digest};
 use std::alloc::Global;
@@ -207,96 +207,85 @@ fn marks_of(
     }
 }
 
-// The best resource for job `i`, whose request has no ports, and whose user has this number.
+// The best resource for a job whose user has this number.
 pub(crate) fn choose<F: Ledger, E: Ledger, T: Ledger>(
     scene: &Scene<'_>,
-    claims: &ClaimTable,
-    i: usize,
-    request: &Request,
+    seeker: &Seeker<'_>,
     number: u64,
     clusters: &mut Clusters,
-    tops: &mut Steps<F>,
-    entry: &mut Steps<E>,
-    touch: &mut Steps<T>,
+    meter: &mut Meter<'_, F, E, T>,
 ) -> Result<Option<usize>, OutOfMemory>
     requires index { IsIndex scene.now.index.now (rows_of (stock_in scene.now)) }
-    requires stored { AreStored (stock_in scene.now) (holder_of (settings_in scene.now) (jobs_of claims.now)) }
-    requires job { option_map (λ job. job.request) (slice_get (jobs_of claims.now) i) ≡ Some request.now }
-    requires single { request.now.ports ≡ [] }
-    requires clusters { AreClusters scene.now.moment (stock_in scene.now) (settings_in scene.now) (jobs_of claims.now) clusters.old }
-    ensures best { IfOk result (λ slot. slot ≡ best_slot (stock_in scene.now) (pool_for scene.now.moment (stock_in scene.now) (settings_in scene.now)
-        (jobs_of claims.now)) (ad_frames request.now.ad) number) }
-    ensures free { IfOk result (λ slot. IfSome slot (λ s. is_offered (jobs_of claims.now) s ≡ false)) }
-    ensures clusters { AreClusters scene.now.moment (stock_in scene.now) (settings_in scene.now) (jobs_of claims.now) clusters.new }
-    ensures evaluations { tops.new ≤ tops.old + 5 * open_count (pool_for scene.now.moment (stock_in scene.now) (settings_in scene.now)
-        (jobs_of claims.now)) (ad_frames request.now.ad) }
-    ensures entries { entry.new ≤ entry.old + entered_for (pool_for scene.now.moment (stock_in scene.now) (settings_in scene.now)
-        (jobs_of claims.now)) (ad_frames request.now.ad) }
-    ensures ratio { AreSmallAds (stock_in scene.now).ads → AreSmallJobs (jobs_of claims.now) → entry.new + 9216 * tops.old ≤ entry.old + 9216 * tops.new }
-    ensures looks { touch.new + clusters.new.looks.saved
-        ≤ touch.old + clusters.old.looks.saved + 9 * least_left (stock_in scene.now).ads (tests_of (ad_frames request.now.ad) 0 []) }
+    requires stored { AreStored (stock_in scene.now) (holder_of (settings_in scene.now) (jobs_around seeker.now)) }
+    requires job { option_map (λ job. job.request) (slice_get (jobs_around seeker.now) seeker.now.place) ≡ Some seeker.now.request.now }
+    requires single { seeker.now.request.now.ports ≡ [] }
+    requires clusters { AreClusters scene.now.moment (stock_in scene.now) (settings_in scene.now) (jobs_around seeker.now) clusters.old }
+    ensures best { IfOk result (λ slot. slot
+        ≡ best_slot (stock_in scene.now) (pool_in scene.now (jobs_around seeker.now)) (ad_frames seeker.now.request.now.ad) number) }
+    ensures free { IfOk result (λ slot. IfSome slot (λ s. is_offered (jobs_around seeker.now) s ≡ false)) }
+    ensures clusters { AreClusters scene.now.moment (stock_in scene.now) (settings_in scene.now) (jobs_around seeker.now) clusters.new }
+    ensures same { IsSame meter.old meter.new }
+    ensures evaluations { meter.new.tops.now
+        ≤ meter.old.tops.now + 5 * open_count (pool_in scene.now (jobs_around seeker.now)) (ad_frames seeker.now.request.now.ad) }
+    ensures entries { meter.new.entry.now
+        ≤ meter.old.entry.now + entered_for (pool_in scene.now (jobs_around seeker.now)) (ad_frames seeker.now.request.now.ad) }
+    ensures ratio { AreSmallAds (stock_in scene.now).ads → AreSmallJobs (jobs_around seeker.now) → IsPaid meter.old meter.new }
+    ensures looks { meter.new.touch.now + clusters.new.looks.saved ≤ meter.old.touch.now + clusters.old.looks.saved
+        + 9 * least_left (stock_in scene.now).ads (tests_of (ad_frames seeker.now.request.now.ad) 0 []) }
 {
-    if let Some(k) = place_of(&clusters.classes, &mut clusters.digests, request, number) {
+    if let Some(k) = place_of(
+        &clusters.classes,
+        &mut clusters.digests,
+        seeker.request,
+        number,
+    ) {
         clusters.shared = clusters.shared.saturating_add(1);
         return clusters.classes[k].choose(
             scene,
-            claims,
-            i,
-            request,
+            seeker,
             &mut clusters.known,
             &mut clusters.looks,
-            tops,
-            entry,
-            touch,
+            meter,
         );
     }
-    search_new(
-        scene, claims, i, request, number, clusters, tops, entry, touch,
-    )
+    search_new(scene, seeker, number, clusters, meter)
 }
 
 // The same for a job that is of no class so far.
 fn search_new<F: Ledger, E: Ledger, T: Ledger>(
     scene: &Scene<'_>,
-    claims: &ClaimTable,
-    i: usize,
-    request: &Request,
+    seeker: &Seeker<'_>,
     number: u64,
     clusters: &mut Clusters,
-    tops: &mut Steps<F>,
-    entry: &mut Steps<E>,
-    touch: &mut Steps<T>,
+    meter: &mut Meter<'_, F, E, T>,
 ) -> Result<Option<usize>, OutOfMemory>
     requires index { IsIndex scene.now.index.now (rows_of (stock_in scene.now)) }
-    requires stored { AreStored (stock_in scene.now) (holder_of (settings_in scene.now) (jobs_of claims.now)) }
-    requires job { option_map (λ job. job.request) (slice_get (jobs_of claims.now) i) ≡ Some request.now }
-    requires single { request.now.ports ≡ [] }
-    requires clusters { AreClusters scene.now.moment (stock_in scene.now) (settings_in scene.now) (jobs_of claims.now) clusters.old }
-    ensures best { IfOk result (λ slot. slot ≡ best_slot (stock_in scene.now) (pool_for scene.now.moment (stock_in scene.now) (settings_in scene.now)
-        (jobs_of claims.now)) (ad_frames request.now.ad) number) }
-    ensures free { IfOk result (λ slot. IfSome slot (λ s. is_offered (jobs_of claims.now) s ≡ false)) }
-    ensures clusters { AreClusters scene.now.moment (stock_in scene.now) (settings_in scene.now) (jobs_of claims.now) clusters.new }
-    ensures evaluations { tops.new ≤ tops.old + 5 * open_count (pool_for scene.now.moment (stock_in scene.now) (settings_in scene.now)
-        (jobs_of claims.now)) (ad_frames request.now.ad) }
-    ensures entries { entry.new ≤ entry.old + entered_for (pool_for scene.now.moment (stock_in scene.now) (settings_in scene.now)
-        (jobs_of claims.now)) (ad_frames request.now.ad) }
-    ensures ratio { AreSmallAds (stock_in scene.now).ads → AreSmallJobs (jobs_of claims.now) → entry.new + 9216 * tops.old ≤ entry.old + 9216 * tops.new }
-    ensures looks { touch.new + clusters.new.looks.saved
-        ≤ touch.old + clusters.old.looks.saved + 9 * least_left (stock_in scene.now).ads (tests_of (ad_frames request.now.ad) 0 []) }
+    requires stored { AreStored (stock_in scene.now) (holder_of (settings_in scene.now) (jobs_around seeker.now)) }
+    requires job { option_map (λ job. job.request) (slice_get (jobs_around seeker.now) seeker.now.place) ≡ Some seeker.now.request.now }
+    requires single { seeker.now.request.now.ports ≡ [] }
+    requires clusters { AreClusters scene.now.moment (stock_in scene.now) (settings_in scene.now) (jobs_around seeker.now) clusters.old }
+    ensures best { IfOk result (λ slot. slot
+        ≡ best_slot (stock_in scene.now) (pool_in scene.now (jobs_around seeker.now)) (ad_frames seeker.now.request.now.ad) number) }
+    ensures free { IfOk result (λ slot. IfSome slot (λ s. is_offered (jobs_around seeker.now) s ≡ false)) }
+    ensures clusters { AreClusters scene.now.moment (stock_in scene.now) (settings_in scene.now) (jobs_around seeker.now) clusters.new }
+    ensures same { IsSame meter.old meter.new }
+    ensures evaluations { meter.new.tops.now
+        ≤ meter.old.tops.now + 5 * open_count (pool_in scene.now (jobs_around seeker.now)) (ad_frames seeker.now.request.now.ad) }
+    ensures entries { meter.new.entry.now
+        ≤ meter.old.entry.now + entered_for (pool_in scene.now (jobs_around seeker.now)) (ad_frames seeker.now.request.now.ad) }
+    ensures ratio { AreSmallAds (stock_in scene.now).ads → AreSmallJobs (jobs_around seeker.now) → IsPaid meter.old meter.new }
+    ensures looks { meter.new.touch.now + clusters.new.looks.saved ≤ meter.old.touch.now + clusters.old.looks.saved
+        + 9 * least_left (stock_in scene.now).ads (tests_of (ad_frames seeker.now.request.now.ad) 0 []) }
 {
-    clusters.read_names(scene, touch)?;
+    clusters.read_names(scene, meter.touch)?;
     let slot = search_alone(
         scene,
-        claims,
-        i,
-        request,
+        seeker,
         number,
         &mut clusters.known,
         &mut clusters.looks,
-        tops,
-        entry,
-        touch,
+        meter,
     )?;
-    clusters.note(scene.alloc, request, number)?;
+    clusters.note(scene.alloc, seeker.request, number)?;
     Ok(slot)
 }

@@ -10,6 +10,8 @@ mod laws;
 mod queues;
 mod scene;
 mod search;
+mod seeker;
+mod shares;
 mod spins;
 mod turns;
 
@@ -23,4 +25,6 @@ pub use laws::{
 };
 pub use queues::Queue;
 pub use scene::Scene;
+pub use seeker::Seeker;
+pub use shares::{Share, Shares};
 pub use spins::cycle;

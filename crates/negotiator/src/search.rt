@@ -2,6 +2,7 @@
 ghost use Rattle.std.specs.Prelude.{◌≡◌, ◌≢◌, ◌<◌, ◌≤◌, ◌+◌, ◌*◌, ◌∷◌, ℕ, true, [], All, AllPairs, IfOk, IfSome, OnErr, OnOk, Some, length, option_map};
 ghost use Rattle.std.specs.Prelude.{slice_get};
 ghost use Rattle.std.specs.Option.{option_map_or};
+ghost use Rattle.pool_steps.specs.Spent.{IsPaid, IsSame, Spends};
 ghost use Rattle.ad_tree.specs.Ad.{ad_frames};
 ghost use Rattle.ad_tree.specs.Small.{IsSmall};
 ghost use Rattle.ad_candidates.specs.Rows.{rows_of};
@@ -14,18 +15,18 @@ ghost use Rattle.claim_table.specs.Small.{AreSmallJobs};
 ghost use Rattle.claim_table.specs.Table.{jobs_of};
 ghost use Rattle.gang_ports.specs.Ports.{ports_of};
 ghost use Rattle.literal_index.specs.Shown.{IsIndex};
-ghost use Rattle.negotiator.specs.Budget.{ArePaid, AreWithin, IsSearched, counts, entries_for, evaluations_for, is_idle_at, looks_for};
-ghost use Rattle.negotiator.specs.Clusters.{AreClusters};
+ghost use Rattle.negotiator.specs.Budget.{ArePaid, AreWithin, IsSearched, entries_for, evaluations_for, is_idle_at, looks_for};
+ghost use Rattle.negotiator.specs.Clusters.{AreClusters, counted_with};
 ghost use Rattle.negotiator.specs.Markets.{AreOwn, found, found_for, offer_named};
-ghost use Rattle.negotiator.specs.Scenes.{IsReady, settings_in, stock_in};
+ghost use Rattle.negotiator.specs.Scenes.{IsReady, jobs_around, settings_in, stock_in};
 
 use crate::clusters::choose;
 use crate::free::free_in;
-use crate::{Clusters, Offered, Scene};
+use crate::{Clusters, Offered, Scene, Seeker};
 use ad_tree::Request;
 use claim_table::{ClaimTable, JobState, Standing};
 use gang_ports::first_gang;
-use pool_steps::Steps;
+use pool_steps::Meter;
 use pool_text::{OutOfMemory, Slots};
 use std::alloc::Global;
 use std::convert::AsSlice;
@@ -57,9 +58,7 @@ fn search<F: Ledger, E: Ledger, T: Ledger>(
     claims: &ClaimTable,
     i: usize,
     clusters: &mut Clusters,
-    tops: &mut Steps<F>,
-    entry: &mut Steps<E>,
-    touch: &mut Steps<T>,
+    meter: &mut Meter<'_, F, E, T>,
 ) -> Result<Option<Slots>, OutOfMemory>
     requires place { i < length (jobs_of claims.now) }
     requires index { IsIndex scene.now.index.now (rows_of (stock_in scene.now)) }
@@ -73,52 +72,53 @@ fn search<F: Ledger, E: Ledger, T: Ledger>(
         (λ list. option_map (λ job. wanted job.request) (slice_get (jobs_of claims.now) i) ≡ Some (length list))) }
     ensures clusters { AreClusters scene.now.moment (stock_in scene.now) (settings_in scene.now) (jobs_of claims.now) clusters.new }
     ensures counted { IsSearched scene.now.moment (stock_in scene.now) (settings_in scene.now) (jobs_of claims.now) i
-        (counts tops.old entry.old (touch.old + clusters.old.looks.saved)) (counts tops.new entry.new (touch.new + clusters.new.looks.saved)) }
-    ensures ratio { AreSmallAds (stock_in scene.now).ads → AreSmallJobs (jobs_of claims.now) → entry.new + 9216 * tops.old ≤ entry.old + 9216 * tops.new }
+        (counted_with meter.old clusters.old) (counted_with meter.new clusters.new) }
+    ensures same { IsSame meter.old meter.new }
+    ensures ratio { AreSmallAds (stock_in scene.now).ads → AreSmallJobs (jobs_of claims.now) → IsPaid meter.old meter.new }
 {
     let request = claims.request(i);
     if request.ports.len() == 0 {
         let number = scene.priorities.get(claims.user(i).bytes());
-        search_one(
-            scene, claims, i, request, number, clusters, tops, entry, touch,
-        )
+        let seeker = Seeker {
+            claims,
+            place: i,
+            request,
+        };
+        search_one(scene, &seeker, number, clusters, meter)
     } else {
-        search_gang(scene, claims, request, tops, entry, touch)
+        search_gang(scene, claims, request, meter)
     }
 }
 
-// The resource that a request without ports finds, whose user has this number, in a list.
+// The resource that a job finds, whose user has this number, in a list.
 fn search_one<F: Ledger, E: Ledger, T: Ledger>(
     scene: &Scene<'_>,
-    claims: &ClaimTable,
-    i: usize,
-    request: &Request,
+    seeker: &Seeker<'_>,
     number: u64,
     clusters: &mut Clusters,
-    tops: &mut Steps<F>,
-    entry: &mut Steps<E>,
-    touch: &mut Steps<T>,
+    meter: &mut Meter<'_, F, E, T>,
 ) -> Result<Option<Slots>, OutOfMemory>
     requires index { IsIndex scene.now.index.now (rows_of (stock_in scene.now)) }
-    requires stored { AreStored (stock_in scene.now) (holder_of (settings_in scene.now) (jobs_of claims.now)) }
-    requires job { option_map (λ job. job.request) (slice_get (jobs_of claims.now) i) ≡ Some request.now }
-    requires single { request.now.ports ≡ [] }
-    requires clusters { AreClusters scene.now.moment (stock_in scene.now) (settings_in scene.now) (jobs_of claims.now) clusters.old }
-    ensures found { IfOk result (λ slots. slots ≡ found_for scene.now.moment (stock_in scene.now) (settings_in scene.now) (jobs_of
-        claims.now) number request.now) }
-    ensures free { IfOk result (λ slots. IfSome slots (λ list. AreFree list (jobs_of claims.now))) }
+    requires stored { AreStored (stock_in scene.now) (holder_of (settings_in scene.now) (jobs_around seeker.now)) }
+    requires job { option_map (λ job. job.request) (slice_get (jobs_around seeker.now) seeker.now.place) ≡ Some seeker.now.request.now }
+    requires single { seeker.now.request.now.ports ≡ [] }
+    requires clusters { AreClusters scene.now.moment (stock_in scene.now) (settings_in scene.now) (jobs_around seeker.now) clusters.old }
+    ensures found { IfOk result (λ slots. slots
+        ≡ found_for scene.now.moment (stock_in scene.now) (settings_in scene.now) (jobs_around seeker.now) number seeker.now.request.now) }
+    ensures free { IfOk result (λ slots. IfSome slots (λ list. AreFree list (jobs_around seeker.now))) }
     ensures distinct { IfOk result (λ slots. IfSome slots (AllPairs (λ a b. a ≢ b))) }
-    ensures enough { IfOk result (λ slots. IfSome slots (λ list. wanted request.now ≡ length list)) }
-    ensures clusters { AreClusters scene.now.moment (stock_in scene.now) (settings_in scene.now) (jobs_of claims.now) clusters.new }
-    ensures evaluations { tops.new ≤ tops.old + evaluations_for scene.now.moment (stock_in scene.now) (settings_in scene.now) (jobs_of claims.now) request.now }
-    ensures entries { entry.new ≤ entry.old + entries_for scene.now.moment (stock_in scene.now) (settings_in scene.now) (jobs_of claims.now) request.now }
-    ensures ratio { AreSmallAds (stock_in scene.now).ads → AreSmallJobs (jobs_of claims.now) → entry.new + 9216 * tops.old ≤ entry.old + 9216 * tops.new }
-    ensures looks { touch.new + clusters.new.looks.saved
-        ≤ touch.old + clusters.old.looks.saved + looks_for (stock_in scene.now) (jobs_of claims.now) request.now }
+    ensures enough { IfOk result (λ slots. IfSome slots (λ list. wanted seeker.now.request.now ≡ length list)) }
+    ensures clusters { AreClusters scene.now.moment (stock_in scene.now) (settings_in scene.now) (jobs_around seeker.now) clusters.new }
+    ensures same { IsSame meter.old meter.new }
+    ensures evaluations { meter.new.tops.now ≤ meter.old.tops.now
+        + evaluations_for scene.now.moment (stock_in scene.now) (settings_in scene.now) (jobs_around seeker.now) seeker.now.request.now }
+    ensures entries { meter.new.entry.now ≤ meter.old.entry.now
+        + entries_for scene.now.moment (stock_in scene.now) (settings_in scene.now) (jobs_around seeker.now) seeker.now.request.now }
+    ensures ratio { AreSmallAds (stock_in scene.now).ads → AreSmallJobs (jobs_around seeker.now) → IsPaid meter.old meter.new }
+    ensures looks { meter.new.touch.now + clusters.new.looks.saved ≤ meter.old.touch.now + clusters.old.looks.saved
+        + looks_for (stock_in scene.now) (jobs_around seeker.now) seeker.now.request.now }
 {
-    let slot = choose(
-        scene, claims, i, request, number, clusters, tops, entry, touch,
-    )?;
+    let slot = choose(scene, seeker, number, clusters, meter)?;
     listed(scene.alloc, slot)
 }
 
@@ -139,9 +139,7 @@ fn search_gang<F: Ledger, E: Ledger, T: Ledger>(
     scene: &Scene<'_>,
     claims: &ClaimTable,
     request: &Request,
-    tops: &mut Steps<F>,
-    entry: &mut Steps<E>,
-    touch: &mut Steps<T>,
+    meter: &mut Meter<'_, F, E, T>,
 ) -> Result<Option<Slots>, OutOfMemory>
     requires index { IsIndex scene.now.index.now (rows_of (stock_in scene.now)) }
     requires ports { ports_of (ad_frames request.now.ad) ≡ Some request.now.ports }
@@ -151,10 +149,11 @@ fn search_gang<F: Ledger, E: Ledger, T: Ledger>(
     ensures free { IfOk result (λ slots. IfSome slots (λ list. AreFree list (jobs_of claims.now))) }
     ensures distinct { IfOk result (λ slots. IfSome slots (AllPairs (λ a b. a ≢ b))) }
     ensures enough { IfOk result (λ slots. IfSome slots (λ list. wanted request.now ≡ length list)) }
-    ensures evaluations { tops.new ≤ tops.old + evaluations_for scene.now.moment (stock_in scene.now) (settings_in scene.now) (jobs_of claims.now) request.now }
-    ensures entries { entry.new ≤ entry.old + entries_for scene.now.moment (stock_in scene.now) (settings_in scene.now) (jobs_of claims.now) request.now }
-    ensures ratio { IsSmall (ad_frames request.now.ad) → AreSmallAds (stock_in scene.now).ads → entry.new + 9216 * tops.old ≤ entry.old + 9216 * tops.new }
-    ensures looks { touch.new ≤ touch.old + looks_for (stock_in scene.now) (jobs_of claims.now) request.now }
+    ensures spent { Spends meter.old meter.new
+        (evaluations_for scene.now.moment (stock_in scene.now) (settings_in scene.now) (jobs_of claims.now) request.now)
+        (entries_for scene.now.moment (stock_in scene.now) (settings_in scene.now) (jobs_of claims.now) request.now)
+        (looks_for (stock_in scene.now) (jobs_of claims.now) request.now) }
+    ensures ratio { IsSmall (ad_frames request.now.ad) → AreSmallAds (stock_in scene.now).ads → IsPaid meter.old meter.new }
 {
     scene.store.slots_are_apart();
     let standing = Standing {
@@ -168,9 +167,9 @@ fn search_gang<F: Ledger, E: Ledger, T: Ledger>(
         &standing,
         request,
         scene.moment,
-        tops,
-        entry,
-        touch,
+        meter.tops,
+        meter.entry,
+        meter.touch,
     )
 }
 
@@ -214,9 +213,7 @@ pub(crate) fn try_job<F: Ledger, E: Ledger, T: Ledger>(
     i: usize,
     failed: &mut [bool],
     clusters: &mut Clusters,
-    tops: &mut Steps<F>,
-    entry: &mut Steps<E>,
-    touch: &mut Steps<T>,
+    meter: &mut Meter<'_, F, E, T>,
 ) -> Result<Option<Offered>, OutOfMemory>
     requires idle { is_idle_at (jobs_of claims.old) i ≡ true }
     requires ready { IsReady scene.now (jobs_of claims.old) failed.old }
@@ -229,15 +226,16 @@ pub(crate) fn try_job<F: Ledger, E: Ledger, T: Ledger>(
     ensures ready { IsReady scene.now (jobs_of claims.new) failed.new }
     ensures clusters { AreClusters scene.now.moment (stock_in scene.now) (settings_in scene.now) (jobs_of claims.new) clusters.new }
     ensures paid { OnOk result (ArePaid scene.now.moment (stock_in scene.now) (settings_in scene.now) (jobs_of claims.old) (jobs_of claims.new) failed.old
-        failed.new (counts tops.old entry.old (touch.old + clusters.old.looks.saved)) (counts tops.new entry.new (touch.new + clusters.new.looks.saved))) }
+        failed.new (counted_with meter.old clusters.old) (counted_with meter.new clusters.new)) }
     ensures within { AreWithin scene.now.moment (stock_in scene.now) (settings_in scene.now) (jobs_of claims.old) failed.old
-        (counts tops.old entry.old (touch.old + clusters.old.looks.saved)) (counts tops.new entry.new (touch.new + clusters.new.looks.saved)) }
-    ensures ratio { AreSmallAds (stock_in scene.now).ads → AreSmallJobs (jobs_of claims.old) → entry.new + 9216 * tops.old ≤ entry.old + 9216 * tops.new }
+        (counted_with meter.old clusters.old) (counted_with meter.new clusters.new) }
+    ensures same { IsSame meter.old meter.new }
+    ensures ratio { AreSmallAds (stock_in scene.now).ads → AreSmallJobs (jobs_of claims.old) → IsPaid meter.old meter.new }
 {
     if failed[i] {
         return Ok(None);
     }
-    let Some(slots) = search(scene, claims, i, clusters, tops, entry, touch)? else {
+    let Some(slots) = search(scene, claims, i, clusters, meter)? else {
         failed[i] = true;
         return Ok(None);
     };

@@ -1,5 +1,6 @@
 // Spins, and the cycle of them.
 ghost use Rattle.std.specs.Prelude.{◌≡◌, ◌≤◌, ◌<◌, ◌+◌, ◌*◌, ◌^◌, ℕ, [], All, Contains, IfOk, OnErr, OnOk, false, length, map, replicate};
+ghost use Rattle.pool_steps.specs.Spent.{IsPaid, IsSame};
 ghost use Rattle.ad_tree.specs.Ad.{ad_frames};
 ghost use Rattle.ad_store.specs.Store.{stock_of};
 ghost use Rattle.ad_candidates.specs.Rows.{rows_of};
@@ -9,8 +10,8 @@ ghost use Rattle.claim_table.specs.Holders.{holder_of};
 ghost use Rattle.claim_table.specs.Small.{AreSmallJobs};
 ghost use Rattle.claim_table.specs.Table.{jobs_of};
 ghost use Rattle.literal_index.specs.Shown.{IsIndex};
-ghost use Rattle.negotiator.specs.Budget.{ArePaid, AreWithin, counts, entries_for, looks_for, open_for, over_idle};
-ghost use Rattle.negotiator.specs.Clusters.{AreClusters};
+ghost use Rattle.negotiator.specs.Budget.{ArePaid, AreWithin, entries_for, looks_for, open_for, over_idle};
+ghost use Rattle.negotiator.specs.Clusters.{AreClusters, counted_with};
 ghost use Rattle.negotiator.specs.Cycle.{Market, cycle_of, offers_in, offers_of, spin, users_of};
 ghost use Rattle.negotiator.specs.Markets.{AreOwn, IsPart, market_of, spin_named, with_offers};
 ghost use Rattle.claim_table.specs.Priorities.{priority_of};
@@ -22,12 +23,12 @@ ghost use Rattle.pie_slices.specs.Slices.{weight_of};
 use crate::free::free_count;
 use crate::queues::queues_of;
 use crate::turns::run_turns;
-use crate::{Clusters, Cycle, Priorities, Queue, Scene, Spin};
+use crate::{Clusters, Cycle, Priorities, Queue, Scene, Shares, Spin};
 use ad_store::Store;
 use claim_table::ClaimTable;
 use literal_index::Index;
 use pie_slices::{Slices, slices, weight};
-use pool_steps::Steps;
+use pool_steps::{Meter, Steps};
 use pool_text::{OutOfMemory, Slots};
 use std::alloc::Global;
 use std::convert::AsSlice;
@@ -45,16 +46,16 @@ use std::sync::ledger::Ledger;
 /// that its ad lists. Each job is searched for once at most, however many spins there are: `tops`, `entry` and `touch`
 /// count no more than one search for each job that is idle as the cycle begins. After want of memory the first offers of
 /// the cycle stand.
-pub fn cycle<F: Ledger, E: Ledger, T: Ledger>(
+pub fn cycle<'a, F: Ledger, E: Ledger, T: Ledger>(
     alloc: Global,
     store: &Store,
     index: &Index,
     claims: &mut ClaimTable,
     priorities: &Priorities,
     moment: u64,
-    tops: &mut Steps<F>,
-    entry: &mut Steps<E>,
-    touch: &mut Steps<T>,
+    tops: &'a mut Steps<F>,
+    entry: &'a mut Steps<E>,
+    touch: &'a mut Steps<T>,
 ) -> Result<Cycle, OutOfMemory>
     requires index { IsIndex index.now (rows_of (stock_of store.now)) }
     requires stored { AreStored (stock_of store.now) (holder_of (settings_of priorities.now) (jobs_of claims.old)) }
@@ -82,15 +83,14 @@ pub fn cycle<F: Ledger, E: Ledger, T: Ledger>(
     let mut queues = queues_of(&scene, claims)?;
     let mut failed = unmarked(alloc, claims.len())?;
     let mut clusters = Clusters::new(alloc, free_count(store, claims));
+    let mut meter = Meter::new(tops, entry, touch);
     run_spins(
         &scene,
         claims,
         &mut queues,
         &mut failed,
         &mut clusters,
-        tops,
-        entry,
-        touch,
+        &mut meter,
     )
 }
 
@@ -109,9 +109,7 @@ fn run_spins<F: Ledger, E: Ledger, T: Ledger>(
     queues: &mut [Queue],
     failed: &mut [bool],
     clusters: &mut Clusters,
-    tops: &mut Steps<F>,
-    entry: &mut Steps<E>,
-    touch: &mut Steps<T>,
+    meter: &mut Meter<'_, F, E, T>,
 ) -> Result<Cycle, OutOfMemory>
     requires queues { AreQueues (market_in scene.now (jobs_of claims.old)) queues.old }
     requires ahead { All (IsAhead (jobs_of claims.old) failed.old) queues.old }
@@ -121,12 +119,13 @@ fn run_spins<F: Ledger, E: Ledger, T: Ledger>(
     ensures table { OnOk result (jobs_of claims.new ≡ with_offers (offers_of (cycle_of (market_in scene.now (jobs_of claims.old)))) (jobs_of claims.old)) }
     ensures part { OnErr result (IsPart (offers_of (cycle_of (market_in scene.now (jobs_of claims.old)))) (jobs_of claims.old) (jobs_of claims.new)) }
     ensures within { AreWithin scene.now.moment (stock_in scene.now) (settings_in scene.now) (jobs_of claims.old) failed.old
-        (counts tops.old entry.old (touch.old + clusters.old.looks.saved)) (counts tops.new entry.new (touch.new + clusters.new.looks.saved)) }
-    ensures ratio { AreSmallAds (stock_in scene.now).ads → AreSmallJobs (jobs_of claims.old) → entry.new + 9216 * tops.old ≤ entry.old + 9216 * tops.new }
+        (counted_with meter.old clusters.old) (counted_with meter.new clusters.new) }
+    ensures same { IsSame meter.old meter.new }
+    ensures ratio { AreSmallAds (stock_in scene.now).ads → AreSmallJobs (jobs_of claims.old) → IsPaid meter.old meter.new }
 {
     let mut spins = Cycle::new(scene.alloc);
     loop {
-        let spin = run_spin(scene, claims, queues, failed, clusters, tops, entry, touch)?;
+        let spin = run_spin(scene, claims, queues, failed, clusters, meter)?;
         let last = spin.turns.len() == 0;
         spins.push(spin)?;
         if last {
@@ -142,9 +141,7 @@ fn run_spin<F: Ledger, E: Ledger, T: Ledger>(
     queues: &mut [Queue],
     failed: &mut [bool],
     clusters: &mut Clusters,
-    tops: &mut Steps<F>,
-    entry: &mut Steps<E>,
-    touch: &mut Steps<T>,
+    meter: &mut Meter<'_, F, E, T>,
 ) -> Result<Spin, OutOfMemory>
     requires queues { AreQueues (market_in scene.now (jobs_of claims.old)) queues.old }
     requires ahead { All (IsAhead (jobs_of claims.old) failed.old) queues.old }
@@ -158,27 +155,22 @@ fn run_spin<F: Ledger, E: Ledger, T: Ledger>(
     ensures ready { IsReady scene.now (jobs_of claims.new) failed.new }
     ensures clusters { AreClusters scene.now.moment (stock_in scene.now) (settings_in scene.now) (jobs_of claims.new) clusters.new }
     ensures paid { OnOk result (ArePaid scene.now.moment (stock_in scene.now) (settings_in scene.now) (jobs_of claims.old) (jobs_of claims.new) failed.old
-        failed.new (counts tops.old entry.old (touch.old + clusters.old.looks.saved)) (counts tops.new entry.new (touch.new + clusters.new.looks.saved))) }
+        failed.new (counted_with meter.old clusters.old) (counted_with meter.new clusters.new)) }
     ensures within { AreWithin scene.now.moment (stock_in scene.now) (settings_in scene.now) (jobs_of claims.old) failed.old
-        (counts tops.old entry.old (touch.old + clusters.old.looks.saved)) (counts tops.new entry.new (touch.new + clusters.new.looks.saved)) }
-    ensures ratio { AreSmallAds (stock_in scene.now).ads → AreSmallJobs (jobs_of claims.old) → entry.new + 9216 * tops.old ≤ entry.old + 9216 * tops.new }
+        (counted_with meter.old clusters.old) (counted_with meter.new clusters.new) }
+    ensures same { IsSame meter.old meter.new }
+    ensures ratio { AreSmallAds (stock_in scene.now).ads → AreSmallJobs (jobs_of claims.old) → IsPaid meter.old meter.new }
 {
     let free = clusters.free;
     let active = active_of(scene, claims, failed, queues)?;
     let weights = weights_of(scene, queues, active.as_slice())?;
     let slices = slices(scene.alloc, free, weights.as_slice())?;
-    let turns = run_turns(
-        scene,
-        claims,
+    let shares = Shares {
         queues,
-        active.as_slice(),
-        slices.as_slice(),
-        failed,
-        clusters,
-        tops,
-        entry,
-        touch,
-    )?;
+        active: active.as_slice(),
+        slices: slices.as_slice(),
+    };
+    let turns = run_turns(scene, claims, &shares, failed, clusters, meter)?;
     Ok(Spin { free, turns })
 }
 

@@ -1,8 +1,11 @@
 //! A counter of steps that takes no bytes and no time, so that a contract can bound how often something is done.
 #![tactic(auto)]
 
+mod meter;
+
 ghost use Rattle.std.specs.Prelude.{◌≡◌, ℕ, ◌+◌, ◌<◌};
 
+pub use meter::Meter;
 use std::marker::Model;
 use std::rt::Process;
 use std::sync::ledger::{Blank, Book, Ledger, Share};

@@ -11,7 +11,8 @@ pub returns-in_err-found-clause-evaluations : goal.returns-in_err-found-clause-e
 returns-in_err-found-clause-evaluations g c =
     omega (
       arith,
-      c.matches_at.ensures.evaluations,
+      c.new-meter.ensures.tops.1,
+      c.matches_at.ensures.spent.most_evaluations,
       evaluations-sum c.args.moment (ad_frames c.args.request.now.ad) (stock_of
           c.args.store.now).ads c.in_ok-places.places c.in_ok-places.ensures.places,
     )
@@ -20,19 +21,21 @@ pub returns-in_err-found-clause-entries : goal.returns-in_err-found-clause-entri
 returns-in_err-found-clause-entries g c =
     omega (
       arith,
-      c.matches_at.ensures.entries,
+      c.new-meter.ensures.entry.1,
+      c.matches_at.ensures.spent.most_entries,
       attributes-sum c.args.moment (ad_frames c.args.request.now.ad) (stock_of
           c.args.store.now).ads c.in_ok-places.places c.in_ok-places.ensures.places,
     )
 
 pub returns-in_err-found-clause-looks : goal.returns-in_err-found-clause-looks
-returns-in_err-found-clause-looks g c = omega (arith, c.matches_at.ensures.looks, c.in_ok-places.ensures.places.few)
+returns-in_err-found-clause-looks g c = omega (arith, c.new-meter.ensures.touch.1, c.matches_at.ensures.spent.most_looks, c.in_ok-places.ensures.places.few)
 
 pub returns-clause-evaluations : goal.returns-clause-evaluations
 returns-clause-evaluations g c =
     omega (
       arith,
-      c.matches_at.ensures.evaluations,
+      c.new-meter.ensures.tops.1,
+      c.matches_at.ensures.spent.most_evaluations,
       evaluations-sum c.args.moment (ad_frames c.args.request.now.ad) (stock_of
           c.args.store.now).ads c.in_ok-places.places c.in_ok-places.ensures.places,
     )
@@ -41,13 +44,14 @@ pub returns-clause-entries : goal.returns-clause-entries
 returns-clause-entries g c =
     omega (
       arith,
-      c.matches_at.ensures.entries,
+      c.new-meter.ensures.entry.1,
+      c.matches_at.ensures.spent.most_entries,
       attributes-sum c.args.moment (ad_frames c.args.request.now.ad) (stock_of
           c.args.store.now).ads c.in_ok-places.places c.in_ok-places.ensures.places,
     )
 
 pub returns-clause-looks : goal.returns-clause-looks
-returns-clause-looks g c = omega (arith, c.matches_at.ensures.looks, c.in_ok-places.ensures.places.few)
+returns-clause-looks g c = omega (arith, c.new-meter.ensures.touch.1, c.matches_at.ensures.spent.most_looks, c.in_ok-places.ensures.places.few)
 
 pub hits_in_order-requires : goal.hits_in_order-requires
 hits_in_order-requires g c =

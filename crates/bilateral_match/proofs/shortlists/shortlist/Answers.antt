@@ -6,51 +6,45 @@ use Rattle.ad_store.specs.Store.{stock_of}
 use Rattle.dock_match.specs.Pool.{pool_of}
 use Rattle.bilateral_match.specs.declared.member.Member.{Member}
 use Rattle.bilateral_match.specs.Shortlists.{AreInOrder, IsShortlist}
-use Rattle.bilateral_match.proofs.MemberScanLemmas.{entered-sum, open-sum}
+use Rattle.bilateral_match.proofs.MeterLemmas.{searched}
 use Rattle.bilateral_match.proofs.ShortlistLemmas.{found-within, shortlisted}
 use Rattle.bilateral_match.proofs.shortlists.shortlist.Goals as goal
 
 pub returns-in_err-found-clause-evaluations : goal.returns-in_err-found-clause-evaluations
 returns-in_err-found-clause-evaluations g c =
-    omega (
-      arith,
-      c.members_at.ensures.evaluations,
-      open-sum (pool_of c.args.moment (stock_of c.args.store.now) (g.H.Holdings.is_offered c.args.held.now)
-          (g.H.Holdings.holding c.args.held.now)) (ad_frames c.args.request.now.ad) c.in_ok-places.places c.in_ok-places.ensures.places,
-    )
+    let pool = pool_of c.args.moment (stock_of c.args.store.now) (g.H.Holdings.is_offered c.args.held.now) (g.H.Holdings.holding c.args.held.now) in
+    let spent = searched pool (ad_frames c.args.request.now.ad) c.in_ok-places.places c.in_ok-places.ensures.places c.members_at.ensures.spent in
+    omega (arith, spent.most_evaluations, c.new-meter.ensures.tops.1)
 
 pub returns-in_err-found-clause-entries : goal.returns-in_err-found-clause-entries
 returns-in_err-found-clause-entries g c =
-    omega (
-      arith,
-      c.members_at.ensures.entries,
-      entered-sum (pool_of c.args.moment (stock_of c.args.store.now) (g.H.Holdings.is_offered c.args.held.now)
-          (g.H.Holdings.holding c.args.held.now)) (ad_frames c.args.request.now.ad) c.in_ok-places.places c.in_ok-places.ensures.places,
-    )
+    let pool = pool_of c.args.moment (stock_of c.args.store.now) (g.H.Holdings.is_offered c.args.held.now) (g.H.Holdings.holding c.args.held.now) in
+    let spent = searched pool (ad_frames c.args.request.now.ad) c.in_ok-places.places c.in_ok-places.ensures.places c.members_at.ensures.spent in
+    omega (arith, spent.most_entries, c.new-meter.ensures.entry.1)
 
 pub returns-in_err-found-clause-looks : goal.returns-in_err-found-clause-looks
-returns-in_err-found-clause-looks g c = omega (arith, c.members_at.ensures.looks, c.in_ok-places.ensures.places.few)
+returns-in_err-found-clause-looks g c =
+    let pool = pool_of c.args.moment (stock_of c.args.store.now) (g.H.Holdings.is_offered c.args.held.now) (g.H.Holdings.holding c.args.held.now) in
+    let spent = searched pool (ad_frames c.args.request.now.ad) c.in_ok-places.places c.in_ok-places.ensures.places c.members_at.ensures.spent in
+    omega (arith, spent.most_looks, c.new-meter.ensures.touch.1)
 
 pub returns-clause-evaluations : goal.returns-clause-evaluations
 returns-clause-evaluations g c =
-    omega (
-      arith,
-      c.members_at.ensures.evaluations,
-      open-sum (pool_of c.args.moment (stock_of c.args.store.now) (g.H.Holdings.is_offered c.args.held.now)
-          (g.H.Holdings.holding c.args.held.now)) (ad_frames c.args.request.now.ad) c.in_ok-places.places c.in_ok-places.ensures.places,
-    )
+    let pool = pool_of c.args.moment (stock_of c.args.store.now) (g.H.Holdings.is_offered c.args.held.now) (g.H.Holdings.holding c.args.held.now) in
+    let spent = searched pool (ad_frames c.args.request.now.ad) c.in_ok-places.places c.in_ok-places.ensures.places c.members_at.ensures.spent in
+    omega (arith, spent.most_evaluations, c.new-meter.ensures.tops.1)
 
 pub returns-clause-entries : goal.returns-clause-entries
 returns-clause-entries g c =
-    omega (
-      arith,
-      c.members_at.ensures.entries,
-      entered-sum (pool_of c.args.moment (stock_of c.args.store.now) (g.H.Holdings.is_offered c.args.held.now)
-          (g.H.Holdings.holding c.args.held.now)) (ad_frames c.args.request.now.ad) c.in_ok-places.places c.in_ok-places.ensures.places,
-    )
+    let pool = pool_of c.args.moment (stock_of c.args.store.now) (g.H.Holdings.is_offered c.args.held.now) (g.H.Holdings.holding c.args.held.now) in
+    let spent = searched pool (ad_frames c.args.request.now.ad) c.in_ok-places.places c.in_ok-places.ensures.places c.members_at.ensures.spent in
+    omega (arith, spent.most_entries, c.new-meter.ensures.entry.1)
 
 pub returns-clause-looks : goal.returns-clause-looks
-returns-clause-looks g c = omega (arith, c.members_at.ensures.looks, c.in_ok-places.ensures.places.few)
+returns-clause-looks g c =
+    let pool = pool_of c.args.moment (stock_of c.args.store.now) (g.H.Holdings.is_offered c.args.held.now) (g.H.Holdings.holding c.args.held.now) in
+    let spent = searched pool (ad_frames c.args.request.now.ad) c.in_ok-places.places c.in_ok-places.ensures.places c.members_at.ensures.spent in
+    omega (arith, spent.most_looks, c.new-meter.ensures.touch.1)
 
 pub slots_in_order-requires : goal.slots_in_order-requires
 slots_in_order-requires g c =

@@ -20,7 +20,7 @@ returns-in_err-verdict-clause-evaluations g c =
     let ads = (stock_of c.args.store.now).ads in
     evaluations-stay c.args.question.now.moment request ads c.loop-place.place (ad_frames c.look-ad.result.now)
     (c.look-ad.ensures.ad c.loop-place.place c.at.ensures.place)
-    c.args.tops.now c.loop-place.tops c.judge.new.tops c.loop-place.invariant.evaluations c.judge.ensures.evaluations
+    c.args.meter.now.tops.now c.loop-place.meter.tops.now c.judge.new.tops c.loop-place.invariant.evaluations c.judge.ensures.evaluations
 
 pub returns-in_err-verdict-clause-ratio : goal.returns-in_err-verdict-clause-ratio
 returns-in_err-verdict-clause-ratio g c small_request small_ads =
@@ -34,7 +34,7 @@ returns-in_err-push-clause-evaluations g c =
     let ads = (stock_of c.args.store.now).ads in
     evaluations-stay c.args.question.now.moment request ads c.loop-place.place (ad_frames c.look-ad.result.now)
     (c.look-ad.ensures.ad c.loop-place.place c.at.ensures.place)
-    c.args.tops.now c.loop-place.tops c.judge.new.tops c.loop-place.invariant.evaluations c.judge.ensures.evaluations
+    c.args.meter.now.tops.now c.loop-place.meter.tops.now c.judge.new.tops c.loop-place.invariant.evaluations c.judge.ensures.evaluations
 
 pub returns-in_err-push-clause-ratio : goal.returns-in_err-push-clause-ratio
 returns-in_err-push-clause-ratio g c small_request small_ads =
@@ -57,9 +57,10 @@ loop-place-preserved g c =
       counts =
           counts-now moment request ads place fs is (conjuncts_at request 0) c.loop-place.counts c.judge.new.counts c.loop-place.invariant.counts
           c.in_ok-verdict.ensures.counts;
+      same = record { tops = c.loop-place.invariant.same.tops; entry = c.loop-place.invariant.same.entry; touch = c.loop-place.invariant.same.touch };
       evaluations =
-          evaluations-next moment request ads place fs is c.args.tops.now c.loop-place.tops c.judge.new.tops c.loop-place.invariant.evaluations
-          c.judge.ensures.evaluations;
+          evaluations-next moment request ads place fs is c.args.meter.now.tops.now c.loop-place.meter.tops.now c.judge.new.tops
+          c.loop-place.invariant.evaluations c.judge.ensures.evaluations;
       ratio =
           λ small_request small_ads. omega (
             arith,

@@ -3,10 +3,9 @@ use Rattle.std.specs.Prelude.{IfOk, IfSome}
 use Rattle.std.proofs.lemmas.Option.{slice_get_read}
 use Rattle.ad_tree.specs.Ad.{ad_frames}
 use Rattle.bilateral_match.specs.Members.{best_slot}
-use Rattle.claim_table.specs.Table.{jobs_of}
 use Rattle.negotiator.specs.declared.class.Class.{Class}
 use Rattle.negotiator.specs.Markets.{pool_for}
-use Rattle.negotiator.specs.Scenes.{settings_in, stock_in}
+use Rattle.negotiator.specs.Scenes.{jobs_around, settings_in, stock_in}
 use Rattle.negotiator.proofs.ClusterLemmas.{one-changed}
 use Rattle.negotiator.proofs.clusters.choose.Goals as goal
 
@@ -14,7 +13,7 @@ pub returns-in-Some-clause-best : goal.returns-in-Some-clause-best
 returns-in-Some-clause-best g c =
     let moment = c.args.scene.now.moment in
     let stock = stock_in c.args.scene.now in
-    let pool = pool_for moment stock (settings_in c.args.scene.now) (jobs_of c.args.claims.now) in
+    let pool = pool_for moment stock (settings_in c.args.scene.now) (jobs_around c.args.seeker.now) in
     let classes = c.args.clusters.now.classes in
     let class = c.index_mut.result.now in
     let same = c.deref.ensures.value in
@@ -26,9 +25,9 @@ returns-in-Some-clause-best g c =
     let mine : class.number ≡ c.args.number =
     subst (λ (o : Option ℕ). IfSome o (λ k. (one : Class) → slice_get c.deref.result.now k ≡ Some one → one.number ≡ c.args.number))
     c.in-Some.is c.place_of.ensures.number class (ap (λ (l : List Class). slice_get l c.in-Some.k) same ∙ here) in
-    subst (λ (n : ℕ). IfOk c.choose.result (λ slot. slot ≡ best_slot stock pool (ad_frames c.args.request.now.ad) n)) mine c.choose.ensures.best
+    subst (λ (n : ℕ). IfOk c.choose.result (λ slot. slot ≡ best_slot stock pool (ad_frames c.args.seeker.now.request.now.ad) n)) mine c.choose.ensures.best
 
 pub returns-in-Some-clause-clusters : goal.returns-in-Some-clause-clusters
 returns-in-Some-clause-clusters g c =
-    one-changed c.args.scene.now.moment (stock_in c.args.scene.now) (settings_in c.args.scene.now) (jobs_of c.args.claims.now)
+    one-changed c.args.scene.now.moment (stock_in c.args.scene.now) (settings_in c.args.scene.now) (jobs_around c.args.seeker.now)
     c.args.clusters.now c.requires.clusters _ c.in-Some.k c.choose.new.self refl refl c.choose.ensures.known refl c.choose.ensures.class

@@ -77,9 +77,9 @@ returns-else-len-eq0-clause-counted g c =
     let jobs = jobs_of c.args.claims.now in
     let price = request-price moment stock settings jobs c.args.i c.request-request.result.now c.request-request.ensures in
     record {
-      tops = omega (arith, price (evaluations_for moment stock settings), c.search_gang.ensures.evaluations);
-      entry = omega (arith, price (entries_for moment stock settings), c.search_gang.ensures.entries);
-      touch = omega (arith, price (looks_for stock), c.search_gang.ensures.looks);
+      tops = omega (arith, price (evaluations_for moment stock settings), c.search_gang.ensures.spent.most_evaluations);
+      entry = omega (arith, price (entries_for moment stock settings), c.search_gang.ensures.spent.most_entries);
+      touch = omega (arith, price (looks_for stock), c.search_gang.ensures.spent.most_looks);
     }
 
 pub returns-else-len-eq0-clause-ratio : goal.returns-else-len-eq0-clause-ratio

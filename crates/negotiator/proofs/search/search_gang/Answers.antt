@@ -1,4 +1,4 @@
-use Rattle.std.proofs.Common.{◌≡◌, ◌≢◌, List, ℕ, AllPairs, length, map, sym, ◌∙◌}
+use Rattle.std.proofs.Common.{◌≡◌, ◌≢◌, List, ℕ, AllPairs, length, map, refl, sym, ◌∙◌}
 use Rattle.std.specs.Prelude.{IfSome, option_map}
 use Rattle.std.proofs.lemmas.Result.{IfOk-weaker}
 use Rattle.ad_tree.specs.Ad.{ad_frames}
@@ -13,20 +13,25 @@ use Rattle.negotiator.proofs.SearchLemmas.{entries-gang, evaluations-gang, found
 use Rattle.negotiator.proofs.StoredLemmas.{beside}
 use Rattle.negotiator.proofs.search.search_gang.Goals as goal
 
-pub returns-clause-evaluations : goal.returns-clause-evaluations
-returns-clause-evaluations g c =
-    evaluations-gang c.args.scene.now.moment (stock_in c.args.scene.now) (settings_in c.args.scene.now) (jobs_of c.args.claims.now) c.args.request.now
-    c.requires.some c.args.tops.now c.first_gang.new.tops c.first_gang.ensures.evaluations
-
-pub returns-clause-entries : goal.returns-clause-entries
-returns-clause-entries g c =
-    entries-gang c.args.scene.now.moment (stock_in c.args.scene.now) (settings_in c.args.scene.now) (jobs_of c.args.claims.now) c.args.request.now
-    c.requires.some c.args.entry.now c.first_gang.new.entry c.first_gang.ensures.entries
-
-pub returns-clause-looks : goal.returns-clause-looks
-returns-clause-looks g c =
-    looks-gang c.args.scene.now.moment (stock_in c.args.scene.now) (settings_in c.args.scene.now) (jobs_of c.args.claims.now) c.args.request.now c.requires.some
-    c.args.touch.now c.first_gang.new.touch c.first_gang.ensures.looks
+pub returns-clause-spent : goal.returns-clause-spent
+returns-clause-spent g c =
+    let moment = c.args.scene.now.moment in
+    let stock = stock_in c.args.scene.now in
+    let settings = settings_in c.args.scene.now in
+    let jobs = jobs_of c.args.claims.now in
+    let request = c.args.request.now in
+    let meter = c.args.meter.now in
+    record {
+      same = record {
+        tops = refl {a = c.args.meter.now.tops.ghost_name};
+        entry = refl {a = c.args.meter.now.entry.ghost_name};
+        touch = refl {a = c.args.meter.now.touch.ghost_name};
+      };
+      most_evaluations =
+          evaluations-gang moment stock settings jobs request c.requires.some meter.tops.now c.first_gang.new.tops c.first_gang.ensures.evaluations;
+      most_entries = entries-gang moment stock settings jobs request c.requires.some meter.entry.now c.first_gang.new.entry c.first_gang.ensures.entries;
+      most_looks = looks-gang moment stock settings jobs request c.requires.some meter.touch.now c.first_gang.new.touch c.first_gang.ensures.looks;
+    }
 
 pub returns-clause-found : goal.returns-clause-found
 returns-clause-found g c =

@@ -1,11 +1,12 @@
-use Rattle.std.proofs.Common.{◌≡◌, ◌≢◌, ℕ, AllPairs, List, Some, ap, arith, count_by, length, refl, slice_get, subst, sym, ◌∙◌, ◌+◌}
+use Rattle.std.proofs.Common.{◌≡◌, ◌≢◌, ℕ, AllPairs, List, Some, ap, arith, count_by, length, refl, slice_get, subst, sym, ◌∙◌}
 use Rattle.std.specs.Prelude.{IfSome, option_map}
 use Rattle.std.specs.Option.{option_map_or}
 use Rattle.claim_table.specs.declared.job.Job.{Job}
 use Rattle.claim_table.specs.declared.job.Stage.{Stage}
 use Rattle.claim_table.specs.Jobs.{AreFree, wanted, with_standing}
 use Rattle.claim_table.specs.Table.{jobs_of}
-use Rattle.negotiator.specs.Budget.{ArePaid, counts}
+use Rattle.negotiator.specs.Budget.{ArePaid}
+use Rattle.negotiator.specs.Clusters.{counted_with}
 use Rattle.negotiator.specs.Markets.{found, is_free, offer_named}
 use Rattle.negotiator.specs.Scenes.{IsReady, settings_in, stock_in}
 use Rattle.negotiator.proofs.BudgetLemmas.{fail-paid, idle-within, offer-paid, paid-none, paid-within, search-within}
@@ -38,12 +39,12 @@ returns-then-failed-i-clause-table g c =
 
 pub returns-then-failed-i-clause-paid : goal.returns-then-failed-i-clause-paid
 returns-then-failed-i-clause-paid g c =
-    let here = counts c.args.tops.now c.args.entry.now (c.args.touch.now + c.args.clusters.now.looks.saved) in
+    let here = counted_with c.args.meter.now c.args.clusters.now in
     paid-none c.args.scene.now.moment (stock_in c.args.scene.now) (settings_in c.args.scene.now) (jobs_of c.args.claims.now) c.args.failed.now here
 
 pub returns-then-failed-i-clause-within : goal.returns-then-failed-i-clause-within
 returns-then-failed-i-clause-within g c =
-    let here = counts c.args.tops.now c.args.entry.now (c.args.touch.now + c.args.clusters.now.looks.saved) in
+    let here = counted_with c.args.meter.now c.args.clusters.now in
     let jobs = jobs_of c.args.claims.now in
     paid-within c.args.scene.now.moment (stock_in c.args.scene.now) (settings_in c.args.scene.now) jobs jobs c.args.failed.now c.args.failed.now here here
     (paid-none c.args.scene.now.moment (stock_in c.args.scene.now) (settings_in c.args.scene.now) jobs c.args.failed.now here)
@@ -87,8 +88,8 @@ returns-in_err-slots-clause-within g c =
     let place = idle-within jobs c.args.i c.requires.idle in
     search-within c.args.scene.now.moment (stock_in c.args.scene.now) (settings_in c.args.scene.now) jobs c.args.failed.now c.args.i c.requires.idle
     c.if-failed-i.false (omega (arith, place, c.requires.ready.marks))
-    (counts c.args.tops.now c.args.entry.now (c.args.touch.now + c.args.clusters.now.looks.saved))
-    (counts c.search.new.tops c.search.new.entry (c.search.new.touch + c.search.new.clusters.looks.saved)) c.search.ensures.counted
+    (counted_with c.args.meter.now c.args.clusters.now)
+    (counted_with c.search.new.meter c.search.new.clusters) c.search.ensures.counted
 
 pub returns-in_default-clause-offered : goal.returns-in_default-clause-offered
 returns-in_default-clause-offered g c =
@@ -110,8 +111,8 @@ returns-in_default-clause-paid g c =
     let place = idle-within jobs c.args.i c.requires.idle in
     fail-paid c.args.scene.now.moment (stock_in c.args.scene.now) (settings_in c.args.scene.now) jobs c.args.failed.now c.args.i c.requires.idle
     c.if-failed-i.false (omega (arith, place, c.requires.ready.marks))
-    (counts c.args.tops.now c.args.entry.now (c.args.touch.now + c.args.clusters.now.looks.saved))
-    (counts c.search.new.tops c.search.new.entry (c.search.new.touch + c.search.new.clusters.looks.saved)) c.search.ensures.counted
+    (counted_with c.args.meter.now c.args.clusters.now)
+    (counted_with c.search.new.meter c.search.new.clusters) c.search.ensures.counted
 
 pub returns-in_default-clause-within : goal.returns-in_default-clause-within
 returns-in_default-clause-within g c =
@@ -119,8 +120,8 @@ returns-in_default-clause-within g c =
     let place = idle-within jobs c.args.i c.requires.idle in
     search-within c.args.scene.now.moment (stock_in c.args.scene.now) (settings_in c.args.scene.now) jobs c.args.failed.now c.args.i c.requires.idle
     c.if-failed-i.false (omega (arith, place, c.requires.ready.marks))
-    (counts c.args.tops.now c.args.entry.now (c.args.touch.now + c.args.clusters.now.looks.saved))
-    (counts c.search.new.tops c.search.new.entry (c.search.new.touch + c.search.new.clusters.looks.saved)) c.search.ensures.counted
+    (counted_with c.args.meter.now c.args.clusters.now)
+    (counted_with c.search.new.meter c.search.new.clusters) c.search.ensures.counted
 
 pub returns-in_default-clause-clusters : goal.returns-in_default-clause-clusters
 returns-in_default-clause-clusters g c = c.search.ensures.clusters
@@ -165,8 +166,8 @@ returns-in_err-offered-clause-within g c =
     let place = idle-within jobs c.args.i c.requires.idle in
     search-within c.args.scene.now.moment (stock_in c.args.scene.now) (settings_in c.args.scene.now) jobs c.args.failed.now c.args.i c.requires.idle
     c.if-failed-i.false (omega (arith, place, c.requires.ready.marks))
-    (counts c.args.tops.now c.args.entry.now (c.args.touch.now + c.args.clusters.now.looks.saved))
-    (counts c.search.new.tops c.search.new.entry (c.search.new.touch + c.search.new.clusters.looks.saved)) c.search.ensures.counted
+    (counted_with c.args.meter.now c.args.clusters.now)
+    (counted_with c.search.new.meter c.search.new.clusters) c.search.ensures.counted
 
 pub returns-in_err-offered-clause-ratio : goal.returns-in_err-offered-clause-ratio
 returns-in_err-offered-clause-ratio g c = c.search.ensures.ratio
@@ -205,8 +206,8 @@ pub returns-clause-paid : goal.returns-clause-paid
 returns-clause-paid g c =
     let jobs = jobs_of c.args.claims.now in
     let place = idle-within jobs c.args.i c.requires.idle in
-    let x = counts c.args.tops.now c.args.entry.now (c.args.touch.now + c.args.clusters.now.looks.saved) in
-    let y = counts c.search.new.tops c.search.new.entry (c.search.new.touch + c.search.new.clusters.looks.saved) in
+    let x = counted_with c.args.meter.now c.args.clusters.now in
+    let y = counted_with c.search.new.meter c.search.new.clusters in
     subst (λ js. ArePaid c.args.scene.now.moment (stock_in c.args.scene.now) (settings_in c.args.scene.now) jobs js c.args.failed.now c.args.failed.now x y)
     (sym c.in_ok-offered.ensures.ok)
     (offer-paid c.args.scene.now.moment (stock_in c.args.scene.now) (settings_in c.args.scene.now) jobs c.args.failed.now c.args.i c.requires.idle
@@ -218,8 +219,8 @@ returns-clause-within g c =
     let place = idle-within jobs c.args.i c.requires.idle in
     search-within c.args.scene.now.moment (stock_in c.args.scene.now) (settings_in c.args.scene.now) jobs c.args.failed.now c.args.i c.requires.idle
     c.if-failed-i.false (omega (arith, place, c.requires.ready.marks))
-    (counts c.args.tops.now c.args.entry.now (c.args.touch.now + c.args.clusters.now.looks.saved))
-    (counts c.search.new.tops c.search.new.entry (c.search.new.touch + c.search.new.clusters.looks.saved)) c.search.ensures.counted
+    (counted_with c.args.meter.now c.args.clusters.now)
+    (counted_with c.search.new.meter c.search.new.clusters) c.search.ensures.counted
 
 pub returns-clause-ratio : goal.returns-clause-ratio
 returns-clause-ratio g c = c.search.ensures.ratio

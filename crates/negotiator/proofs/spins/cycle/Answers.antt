@@ -1,8 +1,9 @@
-use Rattle.std.proofs.Common.{◌≤◌, All, Bool, List, ℕ, ap, arith, false, replicate, subst, sym, ◌∙◌, ◌+◌}
+use Rattle.std.proofs.Common.{◌≤◌, All, Bool, List, ℕ, ap, arith, false, replicate, subst, sym, ◌∙◌}
 use Rattle.ad_store.specs.Store.{stock_of}
 use Rattle.claim_table.specs.Table.{jobs_of}
 use Rattle.negotiator.specs.declared.queues.Queue.{Queue}
-use Rattle.negotiator.specs.Budget.{counts, is_marked}
+use Rattle.negotiator.specs.Budget.{is_marked}
+use Rattle.negotiator.specs.Clusters.{counted_with}
 use Rattle.negotiator.specs.Markets.{market_of}
 use Rattle.negotiator.specs.Queues.{AreQueues, IsAhead}
 use Rattle.claim_table.specs.Settings.{settings_of}
@@ -57,28 +58,26 @@ returns-clause-stored g c = cycle-stored c.args.store.now c.args.moment (setting
 pub returns-clause-evaluations : goal.returns-clause-evaluations
 returns-clause-evaluations g c =
     let none = c.deref_mut-2.ensures.value ∙ c.in_ok-failed.ensures in
+    let most =
     evaluations-start c.args.moment (stock_of c.args.store.now) (settings_of c.args.priorities.now) (jobs_of c.args.claims.now) c.deref_mut-2.result.now
-    (λ k. ap (λ (f : List Bool). is_marked f k) none ∙ none-marked c.len.result k)
-    (counts c.args.tops.now c.args.entry.now (c.args.touch.now + c.new-clusters.result.looks.saved))
-    (counts c.run_spins.new.tops c.run_spins.new.entry (c.run_spins.new.touch + c.run_spins.new.clusters.looks.saved)) c.run_spins.ensures.within
+    (λ k. ap (λ (f : List Bool). is_marked f k) none ∙ none-marked c.len.result k) (counted_with c.new-meter.result c.new-clusters.result)
+    (counted_with c.run_spins.new.meter c.run_spins.new.clusters) c.run_spins.ensures.within in
+    omega (arith, most, c.run_spins.ensures.same.tops, c.new-meter.ensures.tops)
 
 pub returns-clause-entries : goal.returns-clause-entries
 returns-clause-entries g c =
     let none = c.deref_mut-2.ensures.value ∙ c.in_ok-failed.ensures in
+    let most =
     entries-start c.args.moment (stock_of c.args.store.now) (settings_of c.args.priorities.now) (jobs_of c.args.claims.now) c.deref_mut-2.result.now
-    (λ k. ap (λ (f : List Bool). is_marked f k) none ∙ none-marked c.len.result k)
-    (counts c.args.tops.now c.args.entry.now (c.args.touch.now + c.new-clusters.result.looks.saved))
-    (counts c.run_spins.new.tops c.run_spins.new.entry (c.run_spins.new.touch + c.run_spins.new.clusters.looks.saved)) c.run_spins.ensures.within
+    (λ k. ap (λ (f : List Bool). is_marked f k) none ∙ none-marked c.len.result k) (counted_with c.new-meter.result c.new-clusters.result)
+    (counted_with c.run_spins.new.meter c.run_spins.new.clusters) c.run_spins.ensures.within in
+    omega (arith, most, c.run_spins.ensures.same.entry, c.new-meter.ensures.entry)
 
 pub returns-clause-looks : goal.returns-clause-looks
 returns-clause-looks g c =
     let none = c.deref_mut-2.ensures.value ∙ c.in_ok-failed.ensures in
-    let nothing = c.new-clusters.ensures.saved in
-    omega (
-      arith,
-      nothing,
-      looks-start c.args.moment (stock_of c.args.store.now) (settings_of c.args.priorities.now) (jobs_of c.args.claims.now) c.deref_mut-2.result.now
-          (λ k. ap (λ (f : List Bool). is_marked f k) none ∙ none-marked c.len.result k)
-          (counts c.args.tops.now c.args.entry.now (c.args.touch.now + c.new-clusters.result.looks.saved))
-          (counts c.run_spins.new.tops c.run_spins.new.entry (c.run_spins.new.touch + c.run_spins.new.clusters.looks.saved)) c.run_spins.ensures.within,
-    )
+    let most =
+    looks-start c.args.moment (stock_of c.args.store.now) (settings_of c.args.priorities.now) (jobs_of c.args.claims.now) c.deref_mut-2.result.now
+    (λ k. ap (λ (f : List Bool). is_marked f k) none ∙ none-marked c.len.result k) (counted_with c.new-meter.result c.new-clusters.result)
+    (counted_with c.run_spins.new.meter c.run_spins.new.clusters) c.run_spins.ensures.within in
+    omega (arith, most, c.new-clusters.ensures.saved, c.run_spins.ensures.same.touch, c.new-meter.ensures.touch)

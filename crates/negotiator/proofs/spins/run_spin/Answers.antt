@@ -1,6 +1,6 @@
-use Rattle.std.proofs.Common.{◌≤◌, ◌<◌, ◌^◌, List, ℕ, All, ap, arith, get_or, length, map, subst, sym, ◌∙◌, ◌+◌}
+use Rattle.std.proofs.Common.{◌≤◌, ◌<◌, ◌^◌, List, ℕ, All, ap, arith, get_or, length, map, subst, sym, ◌∙◌}
 use Rattle.claim_table.specs.Table.{jobs_of}
-use Rattle.negotiator.specs.Budget.{counts}
+use Rattle.negotiator.specs.Clusters.{counted_with}
 use Rattle.claim_table.specs.Priorities.{priority_of}
 use Rattle.negotiator.specs.Scenes.{market_in, settings_in, stock_in, users_at}
 use Rattle.claim_table.specs.Settings.{settings_of}
@@ -34,7 +34,7 @@ returns-in_err-active-clause-ratio g c ads small = omega arith
 pub returns-in_err-active-clause-within : goal.returns-in_err-active-clause-within
 returns-in_err-active-clause-within g c =
     within-none c.args.scene.now.moment (stock_in c.args.scene.now) (settings_in c.args.scene.now) (jobs_of c.args.claims.now) c.args.failed.now
-    (counts c.args.tops.now c.args.entry.now (c.args.touch.now + c.args.clusters.now.looks.saved))
+    (counted_with c.args.meter.now c.args.clusters.now)
 
 pub weights_of-requires : goal.weights_of-requires
 weights_of-requires g c = subst (All (λ (k : ℕ). k < length c.active_of.new.queues)) (sym c.as_slice.ensures) c.in_ok-active.ensures.within
@@ -54,7 +54,7 @@ returns-in_err-weights-clause-ratio g c ads small = omega arith
 pub returns-in_err-weights-clause-within : goal.returns-in_err-weights-clause-within
 returns-in_err-weights-clause-within g c =
     within-none c.args.scene.now.moment (stock_in c.args.scene.now) (settings_in c.args.scene.now) (jobs_of c.args.claims.now) c.args.failed.now
-    (counts c.args.tops.now c.args.entry.now (c.args.touch.now + c.args.clusters.now.looks.saved))
+    (counted_with c.args.meter.now c.args.clusters.now)
 
 pub slices-requires-clause-users : goal.slices-requires-clause-users
 slices-requires-clause-users g c =
@@ -82,7 +82,7 @@ returns-in_err-slices-clause-ratio g c ads small = omega arith
 pub returns-in_err-slices-clause-within : goal.returns-in_err-slices-clause-within
 returns-in_err-slices-clause-within g c =
     within-none c.args.scene.now.moment (stock_in c.args.scene.now) (settings_in c.args.scene.now) (jobs_of c.args.claims.now) c.args.failed.now
-    (counts c.args.tops.now c.args.entry.now (c.args.touch.now + c.args.clusters.now.looks.saved))
+    (counted_with c.args.meter.now c.args.clusters.now)
 
 pub slices-requires-clause-free : goal.slices-requires-clause-free
 slices-requires-clause-free g c = c.requires.clusters.few

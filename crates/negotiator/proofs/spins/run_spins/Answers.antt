@@ -1,10 +1,10 @@
-use Rattle.std.proofs.Common.{List, arith, subst, sym, ◌∙◌, ◌+◌}
+use Rattle.std.proofs.Common.{List, arith, subst, sym, ◌∙◌}
 use Rattle.claim_table.specs.Table.{jobs_of}
 use Rattle.negotiator.specs.declared.answers.Spin.{Spin}
-use Rattle.negotiator.specs.Budget.{counts}
+use Rattle.negotiator.specs.Clusters.{counted_with}
 use Rattle.negotiator.specs.Cycle.{offers_of}
 use Rattle.negotiator.specs.Scenes.{market_in, settings_in, stock_in}
-use Rattle.negotiator.proofs.BudgetLemmas.{paid-none, paid-on, paid-within, within-on}
+use Rattle.negotiator.proofs.BudgetLemmas.{paid-none, paid-on, paid-within, same-none, same-on, within-on}
 use Rattle.negotiator.proofs.SmallLemmas.{small-offers}
 use Rattle.negotiator.proofs.SpinLoopLemmas.{SpinsLoop, on_err, queues-here, spins-fewer, spins-list, spins-more, spins-start, spins-stopped}
 use Rattle.negotiator.proofs.SpinLoopLemmas.{spins-stopped-behind, spins-table}
@@ -13,7 +13,7 @@ use Rattle.negotiator.proofs.spins.run_spins.Goals as goal
 pub loop-spins-init : goal.loop-spins-init
 loop-spins-init g c =
     let began = jobs_of c.args.claims.now in
-    let start = counts c.args.tops.now c.args.entry.now (c.args.touch.now + c.args.clusters.now.looks.saved) in
+    let start = counted_with c.args.meter.now c.args.clusters.now in
     record {
       spins =
           subst (λ (list : List Spin). SpinsLoop c.args.scene.now began c.args.failed.now start list began c.args.failed.now start) (sym c.new-spins.ensures)
@@ -22,6 +22,7 @@ loop-spins-init g c =
       queues = c.requires.queues;
       ahead = c.requires.ahead;
       clusters = c.requires.clusters;
+      same = same-none c.args.meter.now;
       ratio = λ ads small. omega arith;
     }
 
@@ -48,9 +49,9 @@ returns-in_err-spin-clause-within g c =
     let began = jobs_of c.args.claims.now in
     let jobs = jobs_of c.loop-spins.claims in
     let later = jobs_of c.run_spin.new.claims in
-    let start = counts c.args.tops.now c.args.entry.now (c.args.touch.now + c.args.clusters.now.looks.saved) in
-    let now = counts c.loop-spins.tops c.loop-spins.entry (c.loop-spins.touch + c.loop-spins.clusters.looks.saved) in
-    let after = counts c.run_spin.new.tops c.run_spin.new.entry (c.run_spin.new.touch + c.run_spin.new.clusters.looks.saved) in
+    let start = counted_with c.args.meter.now c.args.clusters.now in
+    let now = counted_with c.loop-spins.meter c.loop-spins.clusters in
+    let after = counted_with c.run_spin.new.meter c.run_spin.new.clusters in
     within-on c.args.scene.now.moment (stock_in c.args.scene.now) (settings_in c.args.scene.now) began jobs c.args.failed.now c.loop-spins.failed start now
     after c.loop-spins.invariant.spins.paid c.in_err-spin.ensures.within
 
@@ -73,9 +74,9 @@ returns-in_err-push-clause-within g c =
     let began = jobs_of c.args.claims.now in
     let jobs = jobs_of c.loop-spins.claims in
     let later = jobs_of c.run_spin.new.claims in
-    let start = counts c.args.tops.now c.args.entry.now (c.args.touch.now + c.args.clusters.now.looks.saved) in
-    let now = counts c.loop-spins.tops c.loop-spins.entry (c.loop-spins.touch + c.loop-spins.clusters.looks.saved) in
-    let after = counts c.run_spin.new.tops c.run_spin.new.entry (c.run_spin.new.touch + c.run_spin.new.clusters.looks.saved) in
+    let start = counted_with c.args.meter.now c.args.clusters.now in
+    let now = counted_with c.loop-spins.meter c.loop-spins.clusters in
+    let after = counted_with c.run_spin.new.meter c.run_spin.new.clusters in
     paid-within c.args.scene.now.moment (stock_in c.args.scene.now) (settings_in c.args.scene.now) began later c.args.failed.now c.run_spin.new.failed start
     after
     (paid-on c.args.scene.now.moment (stock_in c.args.scene.now) (settings_in c.args.scene.now) began jobs later c.args.failed.now c.loop-spins.failed
@@ -105,9 +106,9 @@ returns-then-last-clause-within g c =
     let began = jobs_of c.args.claims.now in
     let jobs = jobs_of c.loop-spins.claims in
     let later = jobs_of c.run_spin.new.claims in
-    let start = counts c.args.tops.now c.args.entry.now (c.args.touch.now + c.args.clusters.now.looks.saved) in
-    let now = counts c.loop-spins.tops c.loop-spins.entry (c.loop-spins.touch + c.loop-spins.clusters.looks.saved) in
-    let after = counts c.run_spin.new.tops c.run_spin.new.entry (c.run_spin.new.touch + c.run_spin.new.clusters.looks.saved) in
+    let start = counted_with c.args.meter.now c.args.clusters.now in
+    let now = counted_with c.loop-spins.meter c.loop-spins.clusters in
+    let after = counted_with c.run_spin.new.meter c.run_spin.new.clusters in
     paid-within c.args.scene.now.moment (stock_in c.args.scene.now) (settings_in c.args.scene.now) began later c.args.failed.now c.run_spin.new.failed start
     after
     (paid-on c.args.scene.now.moment (stock_in c.args.scene.now) (settings_in c.args.scene.now) began jobs later c.args.failed.now c.loop-spins.failed
@@ -132,9 +133,9 @@ loop-spins-preserved g c =
     let began = jobs_of c.args.claims.now in
     let jobs = jobs_of c.loop-spins.claims in
     let later = jobs_of c.run_spin.new.claims in
-    let start = counts c.args.tops.now c.args.entry.now (c.args.touch.now + c.args.clusters.now.looks.saved) in
-    let now = counts c.loop-spins.tops c.loop-spins.entry (c.loop-spins.touch + c.loop-spins.clusters.looks.saved) in
-    let after = counts c.run_spin.new.tops c.run_spin.new.entry (c.run_spin.new.touch + c.run_spin.new.clusters.looks.saved) in
+    let start = counted_with c.args.meter.now c.args.clusters.now in
+    let now = counted_with c.loop-spins.meter c.loop-spins.clusters in
+    let after = counted_with c.run_spin.new.meter c.run_spin.new.clusters in
     record {
       spins =
           spins-more c.args.scene.now began c.loop-spins.invariant.spins c.in_ok-spin.spin c.in_ok-spin.ensures.spin c.push.new.self c.in_ok-push.ensures.ok
@@ -145,6 +146,7 @@ loop-spins-preserved g c =
       queues = c.in_ok-spin.ensures.queues (market_in c.args.scene.now began) c.loop-spins.invariant.queues;
       ahead = c.in_ok-spin.ensures.ahead;
       clusters = c.in_ok-spin.ensures.clusters;
+      same = same-on c.loop-spins.invariant.same c.in_ok-spin.ensures.same;
       ratio =
           λ ads small. omega (
             arith,

@@ -1,15 +1,14 @@
-use Rattle.std.proofs.Common.{◌≡◌, ◌<◌, List, [], arith, filter, get_or, length, refl, slice_get, subst, sym, ◌+◌}
+use Rattle.std.proofs.Common.{◌<◌, List, [], ap, arith, get_or, length, refl, slice_get, subst, sym}
 use Rattle.std.specs.Option.{option_map_or}
 use Rattle.std.proofs.lemmas.List.{length-map}
 use Rattle.claim_table.specs.Table.{jobs_of}
 use Rattle.negotiator.specs.declared.answers.Turn.{Turn}
 use Rattle.negotiator.specs.declared.queues.Queue.{Queue}
-use Rattle.negotiator.specs.Budget.{counts}
-use Rattle.negotiator.specs.Cycle.{is_of, offers_in, places}
-use Rattle.negotiator.specs.Queues.{IsAhead}
-use Rattle.negotiator.specs.Scenes.{market_in, settings_in, stock_in, users_at}
+use Rattle.negotiator.specs.Clusters.{counted_with}
+use Rattle.negotiator.specs.Cycle.{offers_in}
+use Rattle.negotiator.specs.Scenes.{settings_in, stock_in, users_at}
 use Rattle.negotiator.proofs.ActiveLemmas.{user-here}
-use Rattle.negotiator.proofs.BudgetLemmas.{paid-none, paid-on, paid-within, within-on}
+use Rattle.negotiator.proofs.BudgetLemmas.{paid-none, paid-on, paid-within, same-none, same-on, within-on}
 use Rattle.negotiator.proofs.HeadLemmas.{head-later}
 use Rattle.negotiator.proofs.SmallLemmas.{small-offers}
 use Rattle.negotiator.proofs.SpinLoopLemmas.{TurnsLoop, on_err, own-here, turns-list, turns-more, turns-start, turns-stopped, turns-stopped-behind, turns-table}
@@ -18,42 +17,40 @@ use Rattle.negotiator.proofs.turns.run_turns.Goals as goal
 pub loop-k-init : goal.loop-k-init
 loop-k-init g c =
     let began = jobs_of c.args.claims.now in
-    let start = counts c.args.tops.now c.args.entry.now (c.args.touch.now + c.args.clusters.now.looks.saved) in
-    let users = users_at c.args.queues.now c.args.active.now in
+    let start = counted_with c.args.meter.now c.args.clusters.now in
+    let users = users_at c.args.shares.now.queues.now c.args.shares.now.active.now in
     record {
       turns =
-          subst (λ (list : List Turn). TurnsLoop c.args.scene.now began users c.args.slices.now c.args.failed.now start 0 list began c.args.failed.now start)
-          (sym c.new-turns.ensures)
-          (turns-start c.args.scene.now began users c.args.slices.now c.args.failed.now start c.requires.ready
+          subst (λ (list : List Turn). TurnsLoop c.args.scene.now began users c.args.shares.now.slices.now c.args.failed.now start 0 list began
+          c.args.failed.now start) (sym c.new-turns.ensures)
+          (turns-start c.args.scene.now began users c.args.shares.now.slices.now c.args.failed.now start c.requires.ready
           (paid-none c.args.scene.now.moment (stock_in c.args.scene.now) (settings_in c.args.scene.now) began c.args.failed.now start));
       clusters = c.requires.clusters;
+      same = same-none c.args.meter.now;
       ratio = λ ads small. omega arith;
     }
 
-pub bounds-queues-active : goal.bounds-queues-active
-bounds-queues-active g c = c.requires.active c.loop-k.k _ c.loop-k-test.true
+pub bounds-shares-shares : goal.bounds-shares-shares
+bounds-shares-shares g c = c.requires.active c.loop-k.k _ c.loop-k-test.true
 
-pub bounds-slices-k : goal.bounds-slices-k
-bounds-slices-k g c = omega (arith, c.loop-k-test.true, c.requires.slices)
-
-pub bounds-slices-k-in-loop-k : goal.bounds-slices-k-in-loop-k
-bounds-slices-k-in-loop-k g c = omega (arith, c.loop-k-test.true, c.requires.slices)
+pub bounds-shares-k-in-loop-k : goal.bounds-shares-k-in-loop-k
+bounds-shares-k-in-loop-k g c = omega (arith, c.loop-k-test.true, c.requires.slices)
 
 pub run_turn-requires-clause-own : goal.run_turn-requires-clause-own
 run_turn-requires-clause-own g c =
     let began = jobs_of c.args.claims.now in
-    let market = market_in c.args.scene.now began in
-    own-here c.args.scene.now began c.loop-k.invariant.turns c.index-queues-active.result
-    (subst (λ (q : Queue). q.places ≡ filter (is_of market q.user) (places market.jobs)) (sym c.index-queues-active.is)
-    (c.requires.own _ c.index-queues-active.result (c.requires.active c.loop-k.k 0 c.loop-k-test.true)))
+    own-here c.args.scene.now began c.loop-k.invariant.turns
+    (get_or c.args.shares.now.queues.now (get_or c.args.shares.now.active.now c.loop-k.k 0) c.index-shares-shares.result)
+    (c.requires.own _ c.index-shares-shares.result (c.requires.active c.loop-k.k 0 c.loop-k-test.true))
 
 pub run_turn-requires-clause-ahead : goal.run_turn-requires-clause-ahead
 run_turn-requires-clause-ahead g c =
     let began = jobs_of c.args.claims.now in
     let jobs = jobs_of c.loop-k.claims in
-    head-later began jobs c.args.failed.now c.loop-k.failed c.index-queues-active.result c.loop-k.invariant.turns.paid.others
-    (subst (IsAhead began c.args.failed.now) (sym c.index-queues-active.is)
-    (c.requires.ahead _ c.index-queues-active.result (c.requires.active c.loop-k.k 0 c.loop-k-test.true)))
+    head-later began jobs c.args.failed.now c.loop-k.failed
+    (get_or c.args.shares.now.queues.now (get_or c.args.shares.now.active.now c.loop-k.k 0) c.index-shares-shares.result)
+    c.loop-k.invariant.turns.paid.others
+    (c.requires.ahead _ c.index-shares-shares.result (c.requires.active c.loop-k.k 0 c.loop-k-test.true))
 
 pub run_turn-requires-clause-clusters : goal.run_turn-requires-clause-clusters
 run_turn-requires-clause-clusters g c = c.loop-k.invariant.clusters
@@ -64,24 +61,26 @@ run_turn-requires-clause-ready g c = c.loop-k.invariant.turns.ready
 pub returns-in_err-offers-clause-part : goal.returns-in_err-offers-clause-part
 returns-in_err-offers-clause-part g c =
     let began = jobs_of c.args.claims.now in
-    let users = users_at c.args.queues.now c.args.active.now in
-    let long = length-map c.args.active.now (λ k. option_map_or (λ (q : Queue). q.user) (slice_get c.args.queues.now k) []) in
-    let within : c.loop-k.k < length c.args.active.now = c.loop-k-test.true in
+    let users = users_at c.args.shares.now.queues.now c.args.shares.now.active.now in
+    let long = length-map c.args.shares.now.active.now (λ k. option_map_or (λ (q : Queue). q.user) (slice_get c.args.shares.now.queues.now k) []) in
+    let within : c.loop-k.k < length c.args.shares.now.active.now = c.loop-k-test.true in
     let us : c.loop-k.k < length users = omega (arith, long, within) in
-    let ss : c.loop-k.k < length c.args.slices.now = omega (arith, within, c.requires.slices) in
+    let ss : c.loop-k.k < length c.args.shares.now.slices.now = omega (arith, within, c.requires.slices) in
+    let here = get_or c.args.shares.now.active.now c.loop-k.k 0 in
+    let queue = get_or c.args.shares.now.queues.now here c.index-shares-shares.result in
     let user =
-    user-here c.args.queues.now c.args.active.now c.loop-k.k _ c.index-queues-active.result within refl (c.requires.active c.loop-k.k 0 within)
-    (sym c.index-queues-active.is) in
-    on_err _ (turns-stopped c.args.scene.now began c.loop-k.invariant.turns c.index-queues-active.result.user (get_or c.args.slices.now c.loop-k.k 0) us ss user
+    user-here c.args.shares.now.queues.now c.args.shares.now.active.now c.loop-k.k here queue within refl (c.requires.active c.loop-k.k 0 within)
+    (ap (get_or c.args.shares.now.queues.now here) (sym c.index-shares-shares.is)) in
+    on_err _ (turns-stopped c.args.scene.now began c.loop-k.invariant.turns queue.user (get_or c.args.shares.now.slices.now c.loop-k.k 0) us ss user
     refl (jobs_of c.run_turn.new.claims) c.in_err-offers.ensures.part)
 
 pub returns-in_err-offers-clause-within : goal.returns-in_err-offers-clause-within
 returns-in_err-offers-clause-within g c =
     let began = jobs_of c.args.claims.now in
     let jobs = jobs_of c.loop-k.claims in
-    let start = counts c.args.tops.now c.args.entry.now (c.args.touch.now + c.args.clusters.now.looks.saved) in
-    let now = counts c.loop-k.tops c.loop-k.entry (c.loop-k.touch + c.loop-k.clusters.looks.saved) in
-    let after = counts c.run_turn.new.tops c.run_turn.new.entry (c.run_turn.new.touch + c.run_turn.new.clusters.looks.saved) in
+    let start = counted_with c.args.meter.now c.args.clusters.now in
+    let now = counted_with c.loop-k.meter c.loop-k.clusters in
+    let after = counted_with c.run_turn.new.meter c.run_turn.new.clusters in
     within-on c.args.scene.now.moment (stock_in c.args.scene.now) (settings_in c.args.scene.now) began jobs c.args.failed.now c.loop-k.failed start now after
     c.loop-k.invariant.turns.paid c.in_err-offers.ensures.within
 
@@ -98,24 +97,26 @@ returns-in_err-offers-clause-ratio g c ads small =
 pub returns-in_err-keep-clause-part : goal.returns-in_err-keep-clause-part
 returns-in_err-keep-clause-part g c =
     let began = jobs_of c.args.claims.now in
-    let users = users_at c.args.queues.now c.args.active.now in
-    let long = length-map c.args.active.now (λ k. option_map_or (λ (q : Queue). q.user) (slice_get c.args.queues.now k) []) in
-    let within : c.loop-k.k < length c.args.active.now = c.loop-k-test.true in
+    let users = users_at c.args.shares.now.queues.now c.args.shares.now.active.now in
+    let long = length-map c.args.shares.now.active.now (λ k. option_map_or (λ (q : Queue). q.user) (slice_get c.args.shares.now.queues.now k) []) in
+    let within : c.loop-k.k < length c.args.shares.now.active.now = c.loop-k-test.true in
     let us : c.loop-k.k < length users = omega (arith, long, within) in
-    let ss : c.loop-k.k < length c.args.slices.now = omega (arith, within, c.requires.slices) in
+    let ss : c.loop-k.k < length c.args.shares.now.slices.now = omega (arith, within, c.requires.slices) in
+    let here = get_or c.args.shares.now.active.now c.loop-k.k 0 in
+    let queue = get_or c.args.shares.now.queues.now here c.index-shares-shares.result in
     let user =
-    user-here c.args.queues.now c.args.active.now c.loop-k.k _ c.index-queues-active.result within refl (c.requires.active c.loop-k.k 0 within)
-    (sym c.index-queues-active.is) in
-    on_err _ (turns-stopped-behind c.args.scene.now began c.loop-k.invariant.turns c.index-queues-active.result.user (get_or c.args.slices.now c.loop-k.k 0) us
+    user-here c.args.shares.now.queues.now c.args.shares.now.active.now c.loop-k.k here queue within refl (c.requires.active c.loop-k.k 0 within)
+    (ap (get_or c.args.shares.now.queues.now here) (sym c.index-shares-shares.is)) in
+    on_err _ (turns-stopped-behind c.args.scene.now began c.loop-k.invariant.turns queue.user (get_or c.args.shares.now.slices.now c.loop-k.k 0) us
     ss user refl (jobs_of c.run_turn.new.claims) c.in_ok-offers.ensures.table)
 
 pub returns-in_err-keep-clause-within : goal.returns-in_err-keep-clause-within
 returns-in_err-keep-clause-within g c =
     let began = jobs_of c.args.claims.now in
     let jobs = jobs_of c.loop-k.claims in
-    let start = counts c.args.tops.now c.args.entry.now (c.args.touch.now + c.args.clusters.now.looks.saved) in
-    let now = counts c.loop-k.tops c.loop-k.entry (c.loop-k.touch + c.loop-k.clusters.looks.saved) in
-    let after = counts c.run_turn.new.tops c.run_turn.new.entry (c.run_turn.new.touch + c.run_turn.new.clusters.looks.saved) in
+    let start = counted_with c.args.meter.now c.args.clusters.now in
+    let now = counted_with c.loop-k.meter c.loop-k.clusters in
+    let after = counted_with c.run_turn.new.meter c.run_turn.new.clusters in
     paid-within c.args.scene.now.moment (stock_in c.args.scene.now) (settings_in c.args.scene.now) began (jobs_of c.run_turn.new.claims) c.args.failed.now
     c.run_turn.new.failed start after
     (paid-on c.args.scene.now.moment (stock_in c.args.scene.now) (settings_in c.args.scene.now) began jobs (jobs_of c.run_turn.new.claims) c.args.failed.now
@@ -135,25 +136,28 @@ pub loop-k-preserved : goal.loop-k-preserved
 loop-k-preserved g c =
     let began = jobs_of c.args.claims.now in
     let jobs = jobs_of c.loop-k.claims in
-    let start = counts c.args.tops.now c.args.entry.now (c.args.touch.now + c.args.clusters.now.looks.saved) in
-    let now = counts c.loop-k.tops c.loop-k.entry (c.loop-k.touch + c.loop-k.clusters.looks.saved) in
-    let after = counts c.run_turn.new.tops c.run_turn.new.entry (c.run_turn.new.touch + c.run_turn.new.clusters.looks.saved) in
-    let users = users_at c.args.queues.now c.args.active.now in
-    let long = length-map c.args.active.now (λ k. option_map_or (λ (q : Queue). q.user) (slice_get c.args.queues.now k) []) in
-    let within : c.loop-k.k < length c.args.active.now = c.loop-k-test.true in
+    let start = counted_with c.args.meter.now c.args.clusters.now in
+    let now = counted_with c.loop-k.meter c.loop-k.clusters in
+    let after = counted_with c.run_turn.new.meter c.run_turn.new.clusters in
+    let users = users_at c.args.shares.now.queues.now c.args.shares.now.active.now in
+    let long = length-map c.args.shares.now.active.now (λ k. option_map_or (λ (q : Queue). q.user) (slice_get c.args.shares.now.queues.now k) []) in
+    let within : c.loop-k.k < length c.args.shares.now.active.now = c.loop-k-test.true in
     let us : c.loop-k.k < length users = omega (arith, long, within) in
-    let ss : c.loop-k.k < length c.args.slices.now = omega (arith, within, c.requires.slices) in
+    let ss : c.loop-k.k < length c.args.shares.now.slices.now = omega (arith, within, c.requires.slices) in
+    let here = get_or c.args.shares.now.active.now c.loop-k.k 0 in
+    let queue = get_or c.args.shares.now.queues.now here c.index-shares-shares.result in
     let user =
-    user-here c.args.queues.now c.args.active.now c.loop-k.k _ c.index-queues-active.result within refl (c.requires.active c.loop-k.k 0 within)
-    (sym c.index-queues-active.is) in
+    user-here c.args.shares.now.queues.now c.args.shares.now.active.now c.loop-k.k here queue within refl (c.requires.active c.loop-k.k 0 within)
+    (ap (get_or c.args.shares.now.queues.now here) (sym c.index-shares-shares.is)) in
     record {
       turns =
-          turns-more c.args.scene.now began c.loop-k.invariant.turns c.index-queues-active.result.user (get_or c.args.slices.now c.loop-k.k 0) us ss user refl
+          turns-more c.args.scene.now began c.loop-k.invariant.turns queue.user (get_or c.args.shares.now.slices.now c.loop-k.k 0) us ss user refl
           c.in_ok-offers.offers c.in_ok-offers.ensures.offers c.keep.new.turns c.in_ok-keep.ensures (jobs_of c.run_turn.new.claims) c.in_ok-offers.ensures.table
           c.run_turn.new.failed after c.in_ok-offers.ensures.ready
           (paid-on c.args.scene.now.moment (stock_in c.args.scene.now) (settings_in c.args.scene.now) began jobs (jobs_of c.run_turn.new.claims)
           c.args.failed.now c.loop-k.failed c.run_turn.new.failed start now after c.loop-k.invariant.turns.paid c.in_ok-offers.ensures.paid);
       clusters = c.in_ok-offers.ensures.clusters;
+      same = same-on c.loop-k.invariant.same c.in_ok-offers.ensures.same;
       ratio =
           λ ads small. omega (
             arith,
@@ -164,12 +168,12 @@ loop-k-preserved g c =
 
 pub returns-clause-turns : goal.returns-clause-turns
 returns-clause-turns g c =
-    let long = length-map c.args.active.now (λ k. option_map_or (λ (q : Queue). q.user) (slice_get c.args.queues.now k) []) in
+    let long = length-map c.args.shares.now.active.now (λ k. option_map_or (λ (q : Queue). q.user) (slice_get c.args.shares.now.queues.now k) []) in
     turns-list c.args.scene.now (jobs_of c.args.claims.now) c.loop-k.invariant.turns (omega (arith, long, c.loop-k-test.false))
 
 pub returns-clause-table : goal.returns-clause-table
 returns-clause-table g c =
-    let long = length-map c.args.active.now (λ k. option_map_or (λ (q : Queue). q.user) (slice_get c.args.queues.now k) []) in
+    let long = length-map c.args.shares.now.active.now (λ k. option_map_or (λ (q : Queue). q.user) (slice_get c.args.shares.now.queues.now k) []) in
     turns-table c.args.scene.now (jobs_of c.args.claims.now) c.loop-k.invariant.turns (omega (arith, long, c.loop-k-test.false))
 
 pub returns-clause-clusters : goal.returns-clause-clusters
@@ -185,8 +189,8 @@ pub returns-clause-within : goal.returns-clause-within
 returns-clause-within g c =
     paid-within c.args.scene.now.moment (stock_in c.args.scene.now) (settings_in c.args.scene.now) (jobs_of c.args.claims.now) (jobs_of c.loop-k.claims)
     c.args.failed.now c.loop-k.failed
-    (counts c.args.tops.now c.args.entry.now (c.args.touch.now + c.args.clusters.now.looks.saved))
-    (counts c.loop-k.tops c.loop-k.entry (c.loop-k.touch + c.loop-k.clusters.looks.saved)) c.loop-k.invariant.turns.paid
+    (counted_with c.args.meter.now c.args.clusters.now)
+    (counted_with c.loop-k.meter c.loop-k.clusters) c.loop-k.invariant.turns.paid
 
 pub returns-clause-ratio : goal.returns-clause-ratio
 returns-clause-ratio g c = c.loop-k.invariant.ratio

@@ -75,7 +75,7 @@ returns-in_default-first_failing-clause-evaluations g c =
     let named =
     undecided-named c.args.moment (stock_of c.args.store.now) (settings_of c.args.priorities.now) c.args.name.now jobs i job (sym c.in-Some.ensures.number)
     at in
-    omega (arith, named, c.first_failing.ensures.evaluations)
+    omega (arith, named, c.first_failing.ensures.spent.most_evaluations, c.new-meter.ensures.tops.1)
 
 pub returns-in_default-first_failing-clause-entries : goal.returns-in_default-first_failing-clause-entries
 returns-in_default-first_failing-clause-entries g c =
@@ -86,7 +86,7 @@ returns-in_default-first_failing-clause-entries g c =
     let named =
     entered-named c.args.moment (stock_of c.args.store.now) (settings_of c.args.priorities.now) c.args.name.now jobs i job (sym c.in-Some.ensures.number)
     at in
-    omega (arith, named, c.first_failing.ensures.entries)
+    omega (arith, named, c.first_failing.ensures.spent.most_entries, c.new-meter.ensures.entry.1)
 
 pub returns-in_default-first_failing-clause-ratio : goal.returns-in_default-first_failing-clause-ratio
 returns-in_default-first_failing-clause-ratio g c ads requests =
@@ -95,7 +95,7 @@ returns-in_default-first_failing-clause-ratio g c ads requests =
     let job = c.at-job.result.now in
     let at : slice_get jobs i ≡ Some job = c.at-job.ensures in
     let small = All-found (λ j. IsSmall (ad_frames j.request.ad)) jobs i job requests at in
-    omega (arith, c.first_failing.ensures.ratio small ads requests)
+    omega (arith, c.first_failing.ensures.ratio small ads requests, c.new-meter.ensures.tops.1, c.new-meter.ensures.entry.1)
 
 pub returns-in_default-first_failing-clause-looks : goal.returns-in_default-first_failing-clause-looks
 returns-in_default-first_failing-clause-looks g c =
@@ -107,7 +107,7 @@ returns-in_default-first_failing-clause-looks g c =
     ap {B =
     ℕ} length (offer-named c.args.moment (stock_of c.args.store.now) (settings_of c.args.priorities.now) c.args.name.now jobs i job
     (sym c.in-Some.ensures.number) at) in
-    omega (arith, named, c.first_failing.ensures.looks)
+    omega (arith, named, c.first_failing.ensures.spent.most_looks, c.new-meter.ensures.touch.1)
 
 pub returns-in-Some-failing-clause-claim : goal.returns-in-Some-failing-clause-claim
 returns-in-Some-failing-clause-claim g c =
@@ -131,7 +131,7 @@ returns-in-Some-failing-clause-evaluations g c =
     let named =
     undecided-named c.args.moment (stock_of c.args.store.now) (settings_of c.args.priorities.now) c.args.name.now jobs i job (sym c.in-Some.ensures.number)
     at in
-    omega (arith, named, c.first_failing.ensures.evaluations)
+    omega (arith, named, c.first_failing.ensures.spent.most_evaluations, c.new-meter.ensures.tops.1)
 
 pub returns-in-Some-failing-clause-entries : goal.returns-in-Some-failing-clause-entries
 returns-in-Some-failing-clause-entries g c =
@@ -142,7 +142,7 @@ returns-in-Some-failing-clause-entries g c =
     let named =
     entered-named c.args.moment (stock_of c.args.store.now) (settings_of c.args.priorities.now) c.args.name.now jobs i job (sym c.in-Some.ensures.number)
     at in
-    omega (arith, named, c.first_failing.ensures.entries)
+    omega (arith, named, c.first_failing.ensures.spent.most_entries, c.new-meter.ensures.entry.1)
 
 pub returns-in-Some-failing-clause-ratio : goal.returns-in-Some-failing-clause-ratio
 returns-in-Some-failing-clause-ratio g c ads requests =
@@ -151,7 +151,7 @@ returns-in-Some-failing-clause-ratio g c ads requests =
     let job = c.at-job.result.now in
     let at : slice_get jobs i ≡ Some job = c.at-job.ensures in
     let small = All-found (λ j. IsSmall (ad_frames j.request.ad)) jobs i job requests at in
-    omega (arith, c.first_failing.ensures.ratio small ads requests)
+    omega (arith, c.first_failing.ensures.ratio small ads requests, c.new-meter.ensures.tops.1, c.new-meter.ensures.entry.1)
 
 pub returns-in-Some-failing-clause-looks : goal.returns-in-Some-failing-clause-looks
 returns-in-Some-failing-clause-looks g c =
@@ -163,7 +163,7 @@ returns-in-Some-failing-clause-looks g c =
     ap {B =
     ℕ} length (offer-named c.args.moment (stock_of c.args.store.now) (settings_of c.args.priorities.now) c.args.name.now jobs i job
     (sym c.in-Some.ensures.number) at) in
-    omega (arith, named, c.first_failing.ensures.looks)
+    omega (arith, named, c.first_failing.ensures.spent.most_looks, c.new-meter.ensures.touch.1)
 
 pub grant-requires : goal.grant-requires
 grant-requires g c =
@@ -183,7 +183,7 @@ returns-in_default-grant-clause-evaluations g c =
     let named =
     undecided-named c.args.moment (stock_of c.args.store.now) (settings_of c.args.priorities.now) c.args.name.now jobs i job (sym c.in-Some.ensures.number)
     at in
-    omega (arith, named, c.first_failing.ensures.evaluations)
+    omega (arith, named, c.first_failing.ensures.spent.most_evaluations, c.new-meter.ensures.tops.1)
 
 pub returns-in_default-grant-clause-entries : goal.returns-in_default-grant-clause-entries
 returns-in_default-grant-clause-entries g c =
@@ -194,7 +194,7 @@ returns-in_default-grant-clause-entries g c =
     let named =
     entered-named c.args.moment (stock_of c.args.store.now) (settings_of c.args.priorities.now) c.args.name.now jobs i job (sym c.in-Some.ensures.number)
     at in
-    omega (arith, named, c.first_failing.ensures.entries)
+    omega (arith, named, c.first_failing.ensures.spent.most_entries, c.new-meter.ensures.entry.1)
 
 pub returns-in_default-grant-clause-ratio : goal.returns-in_default-grant-clause-ratio
 returns-in_default-grant-clause-ratio g c ads requests =
@@ -203,7 +203,7 @@ returns-in_default-grant-clause-ratio g c ads requests =
     let job = c.at-job.result.now in
     let at : slice_get jobs i ≡ Some job = c.at-job.ensures in
     let small = All-found (λ j. IsSmall (ad_frames j.request.ad)) jobs i job requests at in
-    omega (arith, c.first_failing.ensures.ratio small ads requests)
+    omega (arith, c.first_failing.ensures.ratio small ads requests, c.new-meter.ensures.tops.1, c.new-meter.ensures.entry.1)
 
 pub returns-in_default-grant-clause-looks : goal.returns-in_default-grant-clause-looks
 returns-in_default-grant-clause-looks g c =
@@ -215,7 +215,7 @@ returns-in_default-grant-clause-looks g c =
     ap {B =
     ℕ} length (offer-named c.args.moment (stock_of c.args.store.now) (settings_of c.args.priorities.now) c.args.name.now jobs i job
     (sym c.in-Some.ensures.number) at) in
-    omega (arith, named, c.first_failing.ensures.looks)
+    omega (arith, named, c.first_failing.ensures.spent.most_looks, c.new-meter.ensures.touch.1)
 
 pub returns-clause-claim : goal.returns-clause-claim
 returns-clause-claim g c =
@@ -238,7 +238,7 @@ returns-clause-evaluations g c =
     let named =
     undecided-named c.args.moment (stock_of c.args.store.now) (settings_of c.args.priorities.now) c.args.name.now jobs i job (sym c.in-Some.ensures.number)
     at in
-    omega (arith, named, c.first_failing.ensures.evaluations)
+    omega (arith, named, c.first_failing.ensures.spent.most_evaluations, c.new-meter.ensures.tops.1)
 
 pub returns-clause-entries : goal.returns-clause-entries
 returns-clause-entries g c =
@@ -249,7 +249,7 @@ returns-clause-entries g c =
     let named =
     entered-named c.args.moment (stock_of c.args.store.now) (settings_of c.args.priorities.now) c.args.name.now jobs i job (sym c.in-Some.ensures.number)
     at in
-    omega (arith, named, c.first_failing.ensures.entries)
+    omega (arith, named, c.first_failing.ensures.spent.most_entries, c.new-meter.ensures.entry.1)
 
 pub returns-clause-ratio : goal.returns-clause-ratio
 returns-clause-ratio g c ads requests =
@@ -258,7 +258,7 @@ returns-clause-ratio g c ads requests =
     let job = c.at-job.result.now in
     let at : slice_get jobs i ≡ Some job = c.at-job.ensures in
     let small = All-found (λ j. IsSmall (ad_frames j.request.ad)) jobs i job requests at in
-    omega (arith, c.first_failing.ensures.ratio small ads requests)
+    omega (arith, c.first_failing.ensures.ratio small ads requests, c.new-meter.ensures.tops.1, c.new-meter.ensures.entry.1)
 
 pub returns-clause-looks : goal.returns-clause-looks
 returns-clause-looks g c =
@@ -270,4 +270,4 @@ returns-clause-looks g c =
     ap {B =
     ℕ} length (offer-named c.args.moment (stock_of c.args.store.now) (settings_of c.args.priorities.now) c.args.name.now jobs i job
     (sym c.in-Some.ensures.number) at) in
-    omega (arith, named, c.first_failing.ensures.looks)
+    omega (arith, named, c.first_failing.ensures.spent.most_looks, c.new-meter.ensures.touch.1)

@@ -1,23 +1,25 @@
 -- The attribute that is entered: its expression is evaluated in a scene of its own.
 use Rattle.std.proofs.Common.{◌≡◌, ◌≤◌, ◌<◌, ◌+◌, ◌-◌, ◌*◌, ℕ, None, Some, IsSome, Result, Ok, Err, cond, refl, ap, sym, ◌∙◌, subst, arith}
+use Rattle.pool_text.specs.declared.language.Lit.{Lit}
 use Rattle.pool_text.specs.declared.language.Pos.{Pos}
-use Rattle.ad_value.specs.Plain.{Plain, plain}
+use Rattle.ad_value.specs.Plain.{Plain, plain, plain_of_lit}
 use Rattle.ad_tree.specs.Tree.{Tree}
 use Rattle.cycle_guard.specs.declared.guard.Guard.{Guard}
 use Rattle.cycle_guard.specs.Sights.{done, same_pos}
 use Rattle.cycle_guard.specs.Shown.{sight_of}
 use Rattle.eval_scope.specs.Shown.{world_of}
-use Rattle.eval_scope.specs.World.{PlainWorld, expr_of, frame_of_attribute}
+use Rattle.eval_scope.specs.World.{PlainWorld, expr_of, frame_of_attribute, literal_of}
 use Rattle.ad_eval.specs.declared.outcome.Outcome.{Outcome}
 use Rattle.ad_eval.specs.declared.stop.Stop.{Stop}
 use Rattle.ad_eval.specs.declared.scene.Scene.{Scene as TheScene}
-use Rattle.ad_eval.specs.Answered.{IsKept, IsRecalled}
+use Rattle.ad_eval.specs.Answered.{IsApplied, IsKept, IsRecalled}
 use Rattle.ad_eval.specs.Kept.{Answers, Counts, IsReached, IsReady, Ready, unseen_count}
 use Rattle.ad_eval.specs.Scene.{values_in, world_in}
 use Rattle.ad_eval.specs.Value.{value_at, value_with}
 use Rattle.ad_eval.proofs.CountLemmas.{unseen-after, unseen-same}
 use Rattle.ad_eval.proofs.KeptLemmas.{answer_none, answer_some, answers_some, is_ready, reached_as, reached_of, ready_is, ready_of, stops_by}
-use Rattle.ad_eval.proofs.ReferenceLemmas.{kept-reached, kept-short}
+use Rattle.ad_eval.proofs.PartLemmas.{stops_wanting}
+use Rattle.ad_eval.proofs.ReferenceLemmas.{kept-reached, kept-short, literal-reached}
 use Rattle.ad_eval.proofs.MeasureLemmas.{turn}
 use Rattle.ad_eval.proofs.SceneLemmas.{inside_is}
 
@@ -85,8 +87,17 @@ inner_work s i inside world left less =
     by : (a b d : ℕ) → a ≡ b → b + inside < d → 8 * a + 8 * inside < 8 * d
     by a b d e l = omega arith
 
--- ---- values that are kept
+-- ---- values that are kept, and those of literals
 module _ (w : PlainWorld) (left : ℕ) (pos : Pos) where
+  -- the value of a literal is answered
+  pub answers_literal : (g : Guard) (lit : Lit) (r : Result Outcome Stop) → 0 < left → Ready w g (λ n. value_at n w pos)
+      → literal_of (expr_of w pos) ≡ Some lit → IsApplied (plain_of_lit lit) 1 r → Answers w (λ n. value_at n w pos) left g g r
+  answers_literal g lit (Ok o) some ready is (value, height) =
+      answers_some w (λ n. value_at n w pos) left g g o
+      (reached_as w (λ n. value_at n w pos) left g g (plain_of_lit lit) (plain o.value) 1 o.height value height
+      (literal-reached w g pos lit is left some (ready_is w g (λ n. value_at n w pos) ready)))
+  answers_literal g lit (Err stop) some ready is wanting = stops_wanting w left (λ n. value_at n w pos) g g stop wanting
+
   -- a kept value is answered
   pub recalls : (g : Guard) (v : Plain) (h : ℕ) (r : Result Outcome Stop) → IsReady w g (λ n. value_at n w pos) → sight_of g pos ≡ done v h
       → IsRecalled left v h r → Answers w (λ n. value_at n w pos) left g g r

@@ -1,15 +1,17 @@
 -- References: circles, attributes that are entered, and values that are kept.
 use Rattle.std.proofs.Common.{◌≡◌, ◌≢◌, ◌≤◌, ◌<◌, ◌+◌, ◌-◌, ℕ, zero, suc, true, false, refl, Option, None, Some, IsSome, cond, ap, sym, ◌∙◌, subst, arith, ◌⊎◌}
 use Rattle.std.proofs.Common.{inl, inr, sub-one}
-use Rattle.std.specs.Option.{is_some, option_and_then}
+use Rattle.std.specs.Option.{is_some, option_and_then, option_map}
+use Rattle.pool_text.specs.declared.language.AdPlace.{AdPlace}
+use Rattle.pool_text.specs.declared.language.Lit.{Lit}
 use Rattle.pool_text.specs.declared.language.Pos.{Pos}
-use Rattle.ad_value.specs.Plain.{Plain}
-use Rattle.ad_tree.specs.Tree.{Tree}
+use Rattle.ad_value.specs.Plain.{Plain, plain_of_lit}
+use Rattle.ad_tree.specs.Tree.{Tree, all, any, binary, call, choice, frame, list, literal, name, node, select, subscript, unary}
 use Rattle.cycle_guard.specs.declared.guard.Guard.{Guard}
 use Rattle.cycle_guard.specs.Sights.{unseen, pending, done, same_pos}
 use Rattle.cycle_guard.specs.Shown.{sight_of}
 use Rattle.cycle_guard.proofs.GuardLemmas.{same_pos-cases, same_pos-itself}
-use Rattle.eval_scope.specs.World.{PlainWorld, expr_of, frame_of_attribute}
+use Rattle.eval_scope.specs.World.{PlainWorld, expr_of, frame_of_attribute, literal_of}
 use Rattle.ad_eval.specs.Kept.{HasHeight, IsReady, IsReached, is_pending}
 use Rattle.ad_eval.specs.Value.{value_at, value_by, value_with}
 use Rattle.ad_eval.proofs.KeptLemmas.{Some-or-None, is_pending-pending}
@@ -23,6 +25,44 @@ value_at-none w s = refl
 pub value_at-more : (w : PlainWorld) (s : Pos) (t : Tree) → expr_of w s ≡ Some t → (n : ℕ) → value_at (suc n) w s ≡ value_with n w (frame_of_attribute s) t
 unfolding value_at
 value_at-more w s t there n = ap (option_and_then (value_by (value_at n w) w (frame_of_attribute s))) there
+
+-- ---- an attribute whose expression is a literal
+
+value_by-literal : (at : Pos → Option Plain) (w : PlainWorld) (p : AdPlace) (found : Option Tree) (lit : Lit) → literal_of found ≡ Some lit
+    → option_and_then (value_by at w p) found ≡ Some (plain_of_lit lit)
+value_by-literal at w p None lit is = absurd (cc)
+value_by-literal at w p (Some (frame f)) lit is = absurd (cc)
+value_by-literal at w p (Some (node (literal own) ts)) lit is = ap (option_map plain_of_lit) is
+value_by-literal at w p (Some (node (name scope x) ts)) lit is = absurd (cc)
+value_by-literal at w p (Some (node (unary op) ts)) lit is = absurd (cc)
+value_by-literal at w p (Some (node (binary op) ts)) lit is = absurd (cc)
+value_by-literal at w p (Some (node all ts)) lit is = absurd (cc)
+value_by-literal at w p (Some (node any ts)) lit is = absurd (cc)
+value_by-literal at w p (Some (node choice ts)) lit is = absurd (cc)
+value_by-literal at w p (Some (node (select x) ts)) lit is = absurd (cc)
+value_by-literal at w p (Some (node subscript ts)) lit is = absurd (cc)
+value_by-literal at w p (Some (node (call x) ts)) lit is = absurd (cc)
+value_by-literal at w p (Some (node list ts)) lit is = absurd (cc)
+
+value_at-literal : (w : PlainWorld) (s : Pos) (lit : Lit) → literal_of (expr_of w s) ≡ Some lit → (n : ℕ) → value_at (suc n) w s ≡ Some (plain_of_lit lit)
+unfolding value_at
+value_at-literal w s lit is n = value_by-literal (value_at n w) w (frame_of_attribute s) (expr_of w s) lit is
+
+-- it has its value from one reference on, with nothing entered
+module _ (w : PlainWorld) (g : Guard) (s : Pos) (lit : Lit) (is : literal_of (expr_of w s) ≡ Some lit) where
+  literal-height : HasHeight (λ n. value_at n w s) (plain_of_lit lit) 1
+  literal-height = record { reached = has; short = hasnt }
+    where
+      has : (n : ℕ) → 1 ≤ n → value_at n w s ≡ Some (plain_of_lit lit)
+      has zero le = absurd (omega arith)
+      has (suc n) le = value_at-literal w s lit is n
+
+      hasnt : (n : ℕ) → n < 1 → value_at n w s ≡ None
+      hasnt zero less = value_at-none w s
+      hasnt (suc n) less = absurd (omega arith)
+
+  pub literal-reached : (left : ℕ) → 0 < left → IsReady w g (λ n. value_at n w s) → IsReached w (λ n. value_at n w s) left g g (plain_of_lit lit) 1
+  literal-reached left some ready = record { height = literal-height; within = omega arith; kept = ready.kept; pending = λ q. refl }
 
 -- ---- circles
 

@@ -23,6 +23,7 @@ use std::sync::ledger::Ledger;
 
 /// `first && second && ..` or `first || second || ..`, from the left up to the first that decides.
 #[cycle(evaluation)]
+#[inline(never)]
 pub fn chain<E: Ledger>(
     scene: &Scene<'_>,
     guard: &mut Guard,
@@ -54,6 +55,7 @@ pub fn chain<E: Ledger>(
 
 /// The values of all expressions of a list.
 #[cycle(evaluation)]
+#[inline(never)]
 pub fn all_of<E: Ledger>(
     scene: &Scene<'_>,
     guard: &mut Guard,
@@ -84,6 +86,7 @@ pub fn all_of<E: Ledger>(
 
 /// A list of the values of all expressions, Error where it weighs too much. Then no more values are gathered, but all are demanded.
 #[cycle(evaluation)]
+#[inline(never)]
 pub fn list_literal<E: Ledger>(
     scene: &Scene<'_>,
     guard: &mut Guard,
@@ -110,6 +113,7 @@ pub fn list_literal<E: Ledger>(
 
 /// `condition ? first : second`, of which one branch at most is demanded.
 #[cycle(evaluation)]
+#[inline(never)]
 pub fn conditional<E: Ledger>(
     scene: &Scene<'_>,
     guard: &mut Guard,
@@ -136,6 +140,7 @@ pub fn conditional<E: Ledger>(
 
 /// A call: Error with no argument demanded where the name is unknown or the number of arguments is wrong.
 #[cycle(evaluation)]
+#[inline(never)]
 pub fn call_function<E: Ledger>(
     scene: &Scene<'_>,
     guard: &mut Guard,

@@ -36,8 +36,9 @@ pub fn evaluate<E: Ledger>(
     ensures answer { Answers (world_in scene.now) (values_in scene.now (tree expr.now)) scene.now.left guard.old guard.new result }
     ensures counted { Counts (world_in scene.now) entry.old entry.new guard.old guard.new }
 {
+    // Compound kinds stand apart and are never built in here, since a call clears the places of all its variables.
     match expr {
-        Expr::Literal(lit) => literal(scene.alloc, lit),
+        Expr::Literal(lit) => literal(scene.alloc, lit, 0),
         Expr::Name(scope, name) => {
             let named = look_up(scene, *scope, name.bytes());
             follow(scene, guard, entry, named)
@@ -76,10 +77,31 @@ pub fn follow<E: Ledger>(
     }
 }
 
-/// The value of an attribute. One that is met while it is pending needs itself, so it has no value with any number of
-/// references; a kept value serves where the references that are left are at least as many as it needs.
+/// The value of an attribute. Where a reference is left, one whose expression is a literal has its value at once: it isn't
+/// entered, and nothing is kept of it.
 #[cycle(evaluation)]
 pub fn attribute<E: Ledger>(
+    scene: &Scene<'_>,
+    guard: &mut Guard,
+    entry: &mut Steps<E>,
+    pos: Pos,
+) -> Result<Outcome, Stop>
+    requires there { IsSome (expr_of (world_in scene.now) pos) }
+    requires ready { Ready (world_in scene.now) guard.old (λ n. value_at n (world_in scene.now) pos) }
+    ensures answer { Answers (world_in scene.now) (λ n. value_at n (world_in scene.now) pos) scene.now.left guard.old guard.new result }
+    ensures counted { Counts (world_in scene.now) entry.old entry.new guard.old guard.new }
+{
+    match scene.world.literal_at(pos) {
+        Some(lit) if scene.left > 0 => literal(scene.alloc, lit, 1),
+        _ => known(scene, guard, entry, pos),
+    }
+}
+
+// The value of an attribute by what is known of it. One that is met while it is pending needs itself, so it has no value with
+// any number of references; a kept value serves where the references that are left are at least as many as it needs.
+#[cycle(evaluation)]
+#[inline(never)]
+fn known<E: Ledger>(
     scene: &Scene<'_>,
     guard: &mut Guard,
     entry: &mut Steps<E>,

@@ -1,4 +1,4 @@
-// Values that need no references.
+// Values of expressions that have nothing below them.
 ghost use Rattle.std.specs.Prelude.{◌≡◌};
 ghost use Rattle.ad_value.specs.Plain.{plain, plain_of_lit, ad_at};
 ghost use Rattle.ad_eval.specs.Answered.{IsApplied};
@@ -10,12 +10,12 @@ use ad_value::{Value, from_lit};
 use pool_text::{AdPlace, Lit, OutOfMemory};
 use std::alloc::Global;
 
-/// The value of a literal.
-pub fn literal(alloc: Global, lit: &Lit) -> Result<Outcome, Stop>
-    ensures { IsApplied (plain_of_lit lit.now) 0 result }
+/// The value of a literal, where so many references lead to it.
+pub fn literal(alloc: Global, lit: &Lit, height: u32) -> Result<Outcome, Stop>
+    ensures { IsApplied (plain_of_lit lit.now) height result }
 {
     match from_lit(alloc, lit) {
-        Ok(value) => Ok(Outcome::leaf(value)),
+        Ok(value) => Ok(Outcome { value, height }),
         Err(OutOfMemory) => Err(Stop::OutOfMemory),
     }
 }

@@ -17,6 +17,7 @@ use std::sync::ledger::Ledger;
 
 /// The value of an operator before its operand.
 #[cycle(evaluation)]
+#[inline(never)]
 pub fn unary_operation<E: Ledger>(
     scene: &Scene<'_>,
     guard: &mut Guard,
@@ -34,6 +35,7 @@ pub fn unary_operation<E: Ledger>(
 
 /// The value of an operator between its operands, both of which are demanded.
 #[cycle(evaluation)]
+#[inline(never)]
 pub fn binary_operation<E: Ledger>(
     scene: &Scene<'_>,
     guard: &mut Guard,
@@ -58,6 +60,7 @@ pub fn binary_operation<E: Ledger>(
 
 /// The value of `base.name`.
 #[cycle(evaluation)]
+#[inline(never)]
 pub fn selection<E: Ledger>(
     scene: &Scene<'_>,
     guard: &mut Guard,
@@ -78,6 +81,7 @@ pub fn selection<E: Ledger>(
 
 /// The value of `base[index]`.
 #[cycle(evaluation)]
+#[inline(never)]
 pub fn subscription<E: Ledger>(
     scene: &Scene<'_>,
     guard: &mut Guard,

@@ -101,7 +101,7 @@ pub fn requirement<F: Ledger, E: Ledger>(
     ensures entries { entry.new ≤ entry.old + attribute_count (world_of world.now) }
     ensures ratio { AreSmall (world_of world.now) → entry.new + 9216 * tops.old ≤ entry.old + 9216 * tops.new }
 {
-    let Some(pos) = requirement_in(world, at) else {
+    let Some(pos) = world.requirement(at) else {
         return Ok(false);
     };
     holds(value_at(alloc, world, pos, tops, entry))
@@ -124,7 +124,7 @@ pub fn rank<F: Ledger, E: Ledger>(
     ensures entries { entry.new ≤ entry.old + attribute_count (world_of world.now) }
     ensures ratio { AreSmall (world_of world.now) → entry.new + 9216 * tops.old ≤ entry.old + 9216 * tops.new }
 {
-    let Some(pos) = world.within(at, b"Rank") else {
+    let Some(pos) = world.rank(at) else {
         return Ok(0);
     };
     number(value_at(alloc, world, pos, tops, entry))
@@ -166,7 +166,6 @@ fn spend<F: Ledger, E: Ledger>(
     tops.tick();
     let mut guard = Guard::new(scene.alloc);
     let evaluated = evaluate(scene, &mut guard, entry, expr);
-    drop(guard);
     value_or_error(evaluated)
 }
 
@@ -196,7 +195,6 @@ fn value_at<F: Ledger, E: Ledger>(
     };
     let mut guard = Guard::new(alloc);
     let evaluated = attribute(&scene, &mut guard, entry, pos);
-    drop(guard);
     value_or_error(evaluated)
 }
 
@@ -229,17 +227,6 @@ fn number(value: Result<Value, OutOfMemory>) -> Result<i128, OutOfMemory>
     let number = rank_number(&value);
     drop(value);
     Ok(number)
-}
-
-// The requirement of a frame.
-fn requirement_in(world: &World<'_>, at: AdPlace) -> Option<Pos>
-    ensures found { result ≡ option_map (λ k. attribute_of at k) (requirement_of (frames_of_ad (world_of world.now) at.ad) at.frame) }
-    ensures there { IfSome result (λ pos. IsSome (expr_of (world_of world.now) pos)) }
-{
-    match world.within(at, b"Requirements") {
-        Some(pos) => Some(pos),
-        None => world.within(at, b"Constraint"),
-    }
 }
 
 // The rank that a value stands for, in millionths.

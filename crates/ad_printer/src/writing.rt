@@ -23,6 +23,15 @@ const CONDITION: u8 = 12;
 
 const LAST_PRECEDENCE: u8 = 13;
 
+// How the expressions of a row stand together: the bytes between each two, and how loosely the first and the others may bind
+// without parentheses.
+#[derive(Clone, Copy)]
+struct Divider<'a> {
+    between: &'a [u8],
+    first: u8,
+    other: u8,
+}
+
 /// An expression that stands in a frame of the ad. What is called here stands apart, so that to choose among the kinds takes no
 /// place on the stack.
 #[cycle(writing)]
@@ -106,7 +115,12 @@ fn write_binary(
 fn write_and(out: &mut Vec<u8>, ad: &Ad, turns: u32, list: &Exprs) -> Result<(), OutOfMemory>
     ensures { OnOk result (Adds out.old.items (row_in (ad_frames ad.now) turns (blank (codes " && ") ∷ []) 11 10 (trees list.now)) out.new.items) }
 {
-    write_row(out, ad, turns, b" && ", 11, 10, list)
+    let divider = Divider {
+        between: b" && ",
+        first: 11,
+        other: 10,
+    };
+    write_row(out, ad, turns, divider, list)
 }
 
 /// A chain of `||`.
@@ -115,7 +129,12 @@ fn write_and(out: &mut Vec<u8>, ad: &Ad, turns: u32, list: &Exprs) -> Result<(),
 fn write_or(out: &mut Vec<u8>, ad: &Ad, turns: u32, list: &Exprs) -> Result<(), OutOfMemory>
     ensures { OnOk result (Adds out.old.items (row_in (ad_frames ad.now) turns (blank (codes " || ") ∷ []) 12 11 (trees list.now)) out.new.items) }
 {
-    write_row(out, ad, turns, b" || ", 12, 11, list)
+    let divider = Divider {
+        between: b" || ",
+        first: 12,
+        other: 11,
+    };
+    write_row(out, ad, turns, divider, list)
 }
 
 #[cycle(writing)]
@@ -187,15 +206,12 @@ fn write_call(
 {
     add(out, name)?;
     add(out, b"(")?;
-    write_row(
-        out,
-        ad,
-        turns,
-        b", ",
-        LAST_PRECEDENCE,
-        LAST_PRECEDENCE,
-        list,
-    )?;
+    let divider = Divider {
+        between: b", ",
+        first: LAST_PRECEDENCE,
+        other: LAST_PRECEDENCE,
+    };
+    write_row(out, ad, turns, divider, list)?;
     add(out, b")")?;
     Ok(())
 }
@@ -210,40 +226,35 @@ fn write_list(out: &mut Vec<u8>, ad: &Ad, turns: u32, list: &Exprs) -> Result<()
         return Ok(());
     }
     add(out, b"{ ")?;
-    write_row(
-        out,
-        ad,
-        turns,
-        b", ",
-        LAST_PRECEDENCE,
-        LAST_PRECEDENCE,
-        list,
-    )?;
+    let divider = Divider {
+        between: b", ",
+        first: LAST_PRECEDENCE,
+        other: LAST_PRECEDENCE,
+    };
+    write_row(out, ad, turns, divider, list)?;
     add(out, b" }")?;
     Ok(())
 }
 
-/// Expressions with these bytes between them; `first` and `other` say how loosely the first and the others may bind
-/// without parentheses.
+/// The expressions of a row, divided so.
 #[cycle(writing)]
 fn write_row(
     out: &mut Vec<u8>,
     ad: &Ad,
     turns: u32,
-    between: &[u8],
-    first: u8,
-    other: u8,
+    divider: Divider<'_>,
     list: &Exprs,
 ) -> Result<(), OutOfMemory>
-    ensures { OnOk result (Adds out.old.items (row_in (ad_frames ad.now) turns (blank between.now ∷ []) first other (trees list.now)) out.new.items) }
+    ensures { OnOk result (Adds out.old.items
+        (row_in (ad_frames ad.now) turns (blank divider.entry.between.now ∷ []) divider.entry.first divider.entry.other (trees list.now)) out.new.items) }
 {
     if list.len() == 0 {
         return Ok(());
     }
-    write_part(out, ad, turns, first, list.at(0))?;
+    write_part(out, ad, turns, divider.first, list.at(0))?;
     for i in 1..list.len() {
-        add_few(out, between)?;
-        write_part(out, ad, turns, other, list.at(i))?;
+        add_few(out, divider.between)?;
+        write_part(out, ad, turns, divider.other, list.at(i))?;
     }
     Ok(())
 }

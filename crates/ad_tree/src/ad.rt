@@ -3,6 +3,7 @@ ghost use Rattle.std.specs.Prelude.{◌≡◌, ◌+◌, ◌<◌, ◌^◌, ◌∷
 ghost use Rattle.ad_tree.specs.Tree.{tree};
 ghost use Rattle.ad_tree.specs.Names.{same_name};
 ghost use Rattle.ad_tree.specs.Frames.{IsAd, attributes_at, names_in, parent_of, name_at, expr_at};
+ghost use Rattle.ad_tree.specs.Special.{match_attributes_of, rank_of, requirement_of};
 ghost use Rattle.ad_tree.specs.Table.{frame_of, frames_of, table_frames};
 
 use crate::Expr;
@@ -21,6 +22,7 @@ use std::rc::Rc;
 pub struct Ad {
     frames: Rc<Table>,
     pub ghost is_ad: { IsAd (table_frames frames.value) },
+    ghost matching: { frames.value.matching ≡ match_attributes_of (frame_of frames.value.root) },
 }
 
 impl Ad {
@@ -39,7 +41,7 @@ impl Ad {
         root.shrink();
         shrink(&mut inner);
         inner.shrink_to_fit();
-        let frames = Table { root, inner };
+        let frames = Table::new(root, inner);
         Ok(Ad {
             frames: Rc::new(alloc, frames)?,
         })
@@ -114,6 +116,29 @@ impl Ad {
         ensures { result ≡ position (same_name name.now) (names_in (ad_frames self.now) frame) }
     {
         self.frame_at(frame).position(name)
+    }
+
+    /// The place of the frame's requirement: its attribute `Requirements`, or `Constraint` where it has none. That of the root
+    /// isn't looked for again.
+    pub fn requirement(&self, frame: u32) -> Option<u32>
+        requires { frame < length (ad_frames self.now) }
+        ensures { result ≡ requirement_of (ad_frames self.now) frame }
+    {
+        match frame {
+            0 => self.frames.matching.requirement,
+            _ => self.frame_at(frame).requirement(),
+        }
+    }
+
+    /// The place of the frame's rank: its attribute `Rank`.
+    pub fn rank(&self, frame: u32) -> Option<u32>
+        requires { frame < length (ad_frames self.now) }
+        ensures { result ≡ rank_of (ad_frames self.now) frame }
+    {
+        match frame {
+            0 => self.frames.matching.rank,
+            _ => self.position(frame, b"Rank"),
+        }
     }
 }
 

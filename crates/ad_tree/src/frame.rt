@@ -9,6 +9,7 @@ ghost use Rattle.ad_tree.specs.Steady.{MovesNone};
 use crate::Expr;
 use crate::attribute::Attribute;
 use crate::hasher::DigestHashers;
+use crate::matching::MatchAttributes;
 use crate::name_key::NameKey;
 use indexmap::IndexSet;
 use pool_text::{OutOfMemory, Text};
@@ -24,6 +25,7 @@ pub struct AdFrame {
 }
 
 impl AdFrame {
+    ghost use Rattle.ad_tree.specs.Special.{match_attributes_of};
     ghost use Rattle.ad_tree.specs.Table.{frame_of};
 
     /// No attributes, in an ad literal that stands in this frame.
@@ -86,6 +88,26 @@ impl AdFrame {
         ensures { result ≡ position (same_name name.now) (names_of (frame_of self.now).attributes) }
     {
         find(&self.attributes, name).map(|place| place as u32)
+    }
+
+    /// The place of the requirement: the attribute `Requirements`, or `Constraint` where there is none.
+    pub fn requirement(&self) -> Option<u32>
+        ensures { result ≡ (match_attributes_of (frame_of self.now)).requirement }
+    {
+        match self.position(b"Requirements") {
+            Some(attr) => Some(attr),
+            None => self.position(b"Constraint"),
+        }
+    }
+
+    /// The places of the requirement and of the rank.
+    pub fn matching(&self) -> MatchAttributes
+        ensures { result ≡ match_attributes_of (frame_of self.now) }
+    {
+        MatchAttributes {
+            requirement: self.requirement(),
+            rank: self.position(b"Rank"),
+        }
     }
 }
 

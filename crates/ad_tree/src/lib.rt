@@ -9,6 +9,7 @@ mod frame;
 mod hasher;
 mod laws;
 mod literal;
+mod matching;
 mod name_key;
 mod order;
 mod phrase;

@@ -1,9 +1,10 @@
 -- An expression that an ad settles has one value beside it for all requests, and so has a rank by that expression.
-use Rattle.std.proofs.Common.{◌≡◌, ◌+◌, ℕ, ℤ, pos, zero, suc, Bool, true, false, not, ◌&&◌, List, [], ◌∷◌, drop, eqb, set, slice_get}
-use Rattle.std.proofs.Common.{Option, None, Some, is_some, IfSome, if◌then◌else◌, refl, ap, sym, ◌∙◌, subst, arith}
+use Rattle.std.proofs.Common.{◌≡◌, ◌<◌, ◌+◌, ◌-◌, ℕ, ℤ, pos, zero, suc, Bool, true, false, not, ◌&&◌, List, [], ◌∷◌, All, drop, eqb, get_or, length, set, slice_get}
+use Rattle.std.proofs.Common.{Option, None, Some, is_some, swap_remove, IfSome, if◌then◌else◌, refl, ap, sym, ◌∙◌, subst, arith}
 use Rattle.std.specs.Prelude.{codes, option_map, unwrap_or}
 use Rattle.std.specs.Option.{option_and_then, option_map_or}
 use Rattle.std.proofs.lemmas.Bool.Decides.{nat_tests}
+use Rattle.std.proofs.lemmas.List.Elements.{All-get_or, All-set, All-take}
 use Rattle.pool_text.specs.declared.language.AdPlace.{AdPlace}
 use Rattle.pool_text.specs.declared.language.Pos.{Pos}
 use Rattle.ad_value.specs.Plain.{Plain, error}
@@ -221,3 +222,11 @@ known-is moment ads request ad ranks place known are at is =
     by (Some (Some rank)) (Some advert) e within at =
         let same : advert.ad ≡ ad = cc in
         sym (are place rank advert e within request refl) ∙ ap (rank_of_dock moment request) same
+
+-- ---- what is remembered
+
+-- what holds of all entries holds of those that are left when the last takes the place of one
+pub All-swap_remove : {X : Type 0} (P : X → Type 0) (xs : List X) (k : ℕ) (x : X) → k < length xs → All P xs → All P (swap_remove xs k x)
+All-swap_remove P xs k x within each =
+    All-take P (length xs - 1) (set xs k (get_or xs (length xs - 1) x))
+    (All-set P xs k (get_or xs (length xs - 1) x) (All-get_or P xs (length xs - 1) x (omega arith) each) each)

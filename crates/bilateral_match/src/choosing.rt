@@ -16,7 +16,7 @@ ghost use Rattle.bilateral_match.specs.Known.{AreKnown, AreRanks, is_known_below
 ghost use Rattle.bilateral_match.specs.Members.{IsBest, best_slot};
 ghost use Rattle.bilateral_match.specs.Members as members;
 ghost use Rattle.bilateral_match.specs.Scan as scan;
-ghost use Rattle.bilateral_match.specs.Scenes.{pool_in, request_in, stock_in};
+ghost use Rattle.bilateral_match.specs.Scenes.{IsPlanned, pool_in, request_in, stock_in};
 
 use crate::known::{Known, Ranking};
 use crate::looks::Looks;
@@ -26,6 +26,7 @@ use crate::scene::Scene;
 use ad_candidates::candidates_knowing;
 use ad_store::{Holdings, Store};
 use ad_tree::Request;
+use conjunct_plan::SidePlan;
 use literal_index::Index;
 use pool_steps::{Meter, Steps};
 use pool_text::{OutOfMemory, Slots};
@@ -74,12 +75,14 @@ pub fn best<'a, H: Holdings, F: Ledger, E: Ledger, T: Ledger>(
     ensures looks { touch.new ≤ touch.old
         + 9 * least_left (stock_of store.now).ads (tests_of (ad_frames request.now.ad) 0 []) }
 {
+    let plan = SidePlan::of(alloc, &request.ad, 0, &request.ports)?;
     let scene = Scene {
         alloc,
         store,
         index,
         held,
         request,
+        plan,
         number,
         moment,
     };
@@ -128,12 +131,14 @@ pub fn best_knowing<'a, H: Holdings, F: Ledger, E: Ledger, T: Ledger>(
     ensures saved { touch.new + looks.new.saved ≤ touch.old + looks.old.saved
         + 9 * least_left (stock_of store.now).ads (tests_of (ad_frames request.now.ad) 0 []) }
 {
+    let plan = SidePlan::of(alloc, &request.ad, 0, &request.ports)?;
     let scene = Scene {
         alloc,
         store,
         index,
         held,
         request,
+        plan,
         number,
         moment,
     };
@@ -151,6 +156,7 @@ fn best_in<H: Holdings, F: Ledger, E: Ledger, T: Ledger>(
     requires index { IsIndex scene.now.index.now (rows_of (stock_in scene.now)) }
     requires stored { AreStored (stock_in scene.now) (H.holding scene.now.held.now) }
     requires single { scene.now.request.now.ports ≡ [] }
+    requires planned { IsPlanned scene.now }
     requires known { AreKnown scene.now.moment (stock_in scene.now).ads known.old }
     ensures known { AreKnown scene.now.moment (stock_in scene.now).ads known.new }
     ensures best { IfOk result (λ slot. slot
@@ -200,6 +206,7 @@ fn first_at<H: Holdings, F: Ledger, E: Ledger, T: Ledger>(
 ) -> Result<Option<Member>, OutOfMemory>
     requires stored { AreStored (stock_in scene.now) (H.holding scene.now.held.now) }
     requires single { scene.now.request.now.ports ≡ [] }
+    requires planned { IsPlanned scene.now }
     requires places { All (λ place. place < length (stock_in scene.now).slots) places.now }
     requires ranks { AreRanks scene.now.moment (stock_in scene.now).ads (rank_expr (request_in scene.now)) ranking.old.ranks.items }
     ensures ranks { AreRanks scene.now.moment (stock_in scene.now).ads (rank_expr (request_in scene.now)) ranking.new.ranks.items }
@@ -232,6 +239,7 @@ fn next_at<H: Holdings, F: Ledger, E: Ledger, T: Ledger>(
 ) -> Result<Option<Member>, OutOfMemory>
     requires stored { AreStored (stock_in scene.now) (H.holding scene.now.held.now) }
     requires single { scene.now.request.now.ports ≡ [] }
+    requires planned { IsPlanned scene.now }
     requires place { place < length (stock_in scene.now).slots }
     requires ranks { AreRanks scene.now.moment (stock_in scene.now).ads (rank_expr (request_in scene.now)) ranking.old.ranks.items }
     ensures ranks { AreRanks scene.now.moment (stock_in scene.now).ads (rank_expr (request_in scene.now)) ranking.new.ranks.items }

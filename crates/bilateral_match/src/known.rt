@@ -111,7 +111,7 @@ impl Known {
             let Kept { ad: _, ranking } = self.kept.swap_remove(k);
             return Ok(ranking);
         }
-        if self.kept.len() >= RANKINGS_LIMIT || request.ad.position(0, b"Rank").is_none() {
+        if self.kept.len() >= RANKINGS_LIMIT || request.ad.rank(0).is_none() {
             return Ok(Ranking::unknown(alloc));
         }
         Ranking::of_places(alloc, count)
@@ -152,7 +152,7 @@ impl Known {
 fn has_same_rank(a: &Ad, b: &Ad) -> bool
     ensures { IsTrue result → rank_expr (ad_frames a.now) ≡ rank_expr (ad_frames b.now) }
 {
-    match (a.position(0, b"Rank"), b.position(0, b"Rank")) {
+    match (a.rank(0), b.rank(0)) {
         (Some(j), Some(k)) => same_expr(a.expr(0, j), b.expr(0, k)),
         _ => false,
     }

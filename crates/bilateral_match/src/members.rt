@@ -13,7 +13,7 @@ ghost use Rattle.dock_match.specs.Small.{AreSmallAds, AreSmallHolders};
 ghost use Rattle.pool_steps.specs.Spent.{IsPaid, Spends};
 ghost use Rattle.bilateral_match.specs.Known.{AreRanks, rank_expr};
 ghost use Rattle.bilateral_match.specs.Scan as scan;
-ghost use Rattle.bilateral_match.specs.Scenes.{pool_in, request_in, stock_in};
+ghost use Rattle.bilateral_match.specs.Scenes.{IsPlanned, pool_in, request_in, stock_in};
 
 use crate::known::Ranking;
 use crate::looks::Looks;
@@ -22,7 +22,7 @@ use crate::scene::Scene;
 use ad_eval::rank;
 use ad_store::Holdings;
 use ad_tree::Ad;
-use dock_match::{OpenSides, Preemption, open_sides, won_from};
+use dock_match::{OpenSides, Preemption, open_sides_by_plan, won_from};
 use eval_scope::World;
 use pool_steps::{Meter, Steps};
 use pool_text::OutOfMemory;
@@ -42,6 +42,7 @@ pub fn member_at<H: Holdings, F: Ledger, E: Ledger, T: Ledger>(
 ) -> Result<Option<Member>, OutOfMemory>
     requires stored { AreStored (stock_in scene.now) (H.holding scene.now.held.now) }
     requires single { scene.now.request.now.ports ≡ [] }
+    requires planned { IsPlanned scene.now }
     requires place { place < length (stock_in scene.now).slots }
     requires ranks { AreRanks scene.now.moment (stock_in scene.now).ads (rank_expr (request_in scene.now)) ranking.old.ranks.items }
     ensures ranks { AreRanks scene.now.moment (stock_in scene.now).ads (rank_expr (request_in scene.now)) ranking.new.ranks.items }
@@ -129,6 +130,7 @@ fn ranks<H: Holdings, F: Ledger, E: Ledger, T: Ledger>(
     meter: &mut Meter<'_, F, E, T>,
 ) -> Result<Weighed, OutOfMemory>
     requires single { scene.now.request.now.ports ≡ [] }
+    requires planned { IsPlanned scene.now }
     requires known { IfSome known (λ n. n ≡ rank_of_dock scene.now.moment (request_in scene.now) (ad_frames ad.now)) }
     ensures ranks { IfOk result (λ weighed. weighed.ranks
         ≡ scan.ranks_above bar (scan.ranks_of_dock scene.now.moment (request_in scene.now) (ad_frames ad.now))) }
@@ -139,7 +141,7 @@ fn ranks<H: Holdings, F: Ledger, E: Ledger, T: Ledger>(
     ensures ratio { IsSmall (request_in scene.now) → IsSmall (ad_frames ad.now) → IsPaid meter.old meter.new }
 {
     let request = scene.request;
-    let Some(sides) = open_sides(scene.alloc, request, 0, ad) else {
+    let Some(sides) = open_sides_by_plan(scene.alloc, request, 0, &scene.plan, ad) else {
         return Ok(Weighed {
             rank: None,
             ranks: None,

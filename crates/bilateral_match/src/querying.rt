@@ -13,10 +13,12 @@ ghost use Rattle.bilateral_match.specs.Answers.{AreHits, answers, hit_of, match_
 ghost use Rattle.bilateral_match.specs.Counts.{entered_most, undecided_count};
 
 use crate::hit::{Hit, Hits, Match};
+use crate::scene::QueryScene;
 use crate::weighing::matches_at;
 use ad_candidates::candidates;
 use ad_store::Store;
 use ad_tree::Request;
+use conjunct_plan::SidePlan;
 use literal_index::Index;
 use pool_steps::{Meter, Steps};
 use pool_text::OutOfMemory;
@@ -51,8 +53,16 @@ pub fn query<'a, F: Ledger, E: Ledger, T: Ledger>(
         + least_left (stock_of store.now).ads (tests_of (ad_frames request.now.ad) 0 []) }
 {
     let places = candidates(alloc, store, index, request)?;
+    let plan = SidePlan::of(alloc, &request.ad, 0, &request.ports)?;
+    let scene = QueryScene {
+        alloc,
+        store,
+        request,
+        plan,
+        moment,
+    };
     let mut meter = Meter::new(tops, entry, touch);
-    let found = matches_at(alloc, store, request, moment, &places, &mut meter)?;
+    let found = matches_at(&scene, &places, &mut meter)?;
     hits_in_order(alloc, store, found)
 }
 

@@ -12,7 +12,7 @@ use ad_tree::{Ad, Expr, Exprs, Scope};
 pub(crate) fn is_rank_settled(request: &Ad, ad: &Ad) -> bool
     ensures { result ≡ is_rank_settled (ad_frames ad.now) (rank_expr (ad_frames request.now)) }
 {
-    match request.position(0, b"Rank") {
+    match request.rank(0) {
         Some(attr) => is_settled(request.expr(0, attr), ad),
         None => false,
     }

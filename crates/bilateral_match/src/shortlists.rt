@@ -15,7 +15,7 @@ ghost use Rattle.pool_steps.specs.Spent.{IsPaid, Spends};
 ghost use Rattle.bilateral_match.specs.Counts.{entered_for, open_count};
 ghost use Rattle.bilateral_match.specs.Members.{member_order};
 ghost use Rattle.bilateral_match.specs.Scan as scan;
-ghost use Rattle.bilateral_match.specs.Scenes.{pool_in, request_in, stock_in};
+ghost use Rattle.bilateral_match.specs.Scenes.{IsPlanned, pool_in, request_in, stock_in};
 ghost use Rattle.bilateral_match.specs.Shortlists.{AreInOrder, IsShortlist};
 
 use crate::known::Ranking;
@@ -26,6 +26,7 @@ use crate::scene::Scene;
 use ad_candidates::candidates;
 use ad_store::{Holdings, Store};
 use ad_tree::Request;
+use conjunct_plan::SidePlan;
 use literal_index::Index;
 use pool_steps::{Meter, Steps};
 use pool_text::{OutOfMemory, Slots};
@@ -65,12 +66,14 @@ pub fn shortlist<'a, H: Holdings, F: Ledger, E: Ledger, T: Ledger>(
     ensures looks { touch.new ≤ touch.old
         + 9 * least_left (stock_of store.now).ads (tests_of (ad_frames request.now.ad) 0 []) }
 {
+    let plan = SidePlan::of(alloc, &request.ad, 0, &request.ports)?;
     let scene = Scene {
         alloc,
         store,
         index,
         held,
         request,
+        plan,
         number,
         moment,
     };
@@ -99,6 +102,7 @@ fn members_at<H: Holdings, F: Ledger, E: Ledger, T: Ledger>(
 ) -> Result<Vec<Member>, OutOfMemory>
     requires stored { AreStored (stock_in scene.now) (H.holding scene.now.held.now) }
     requires single { scene.now.request.now.ports ≡ [] }
+    requires planned { IsPlanned scene.now }
     requires places { All (λ place. place < length (stock_in scene.now).slots) places.now }
     ensures found { IfOk result (λ found. found.items ≡ filter_map
         (scan.member_at (pool_in H.is_offered H.holding scene.now) (request_in scene.now) scene.now.number) places.now) }

@@ -12,12 +12,13 @@ ghost use Rattle.dock_match.specs.Small.{AreSmallAds};
 ghost use Rattle.pool_steps.specs.Spent.{IsPaid, Spends};
 ghost use Rattle.bilateral_match.specs.Counts.{attributes_most, evaluations_most};
 ghost use Rattle.bilateral_match.specs.Scan.{attributes_at, evaluations_at, match_at};
+ghost use Rattle.bilateral_match.specs.Scenes.{ads_in, asked_in};
 
 use crate::hit::Match;
+use crate::scene::QueryScene;
 use ad_eval::rank;
-use ad_store::Store;
-use ad_tree::{Ad, Request};
-use dock_match::{OpenSides, open_sides};
+use ad_tree::Ad;
+use dock_match::{OpenSides, open_sides_by_plan};
 use eval_scope::World;
 use pool_steps::{Meter, Steps};
 use pool_text::{OutOfMemory, Slots};
@@ -28,24 +29,23 @@ use std::sync::ledger::Ledger;
 /// The rank that the request gives the ad, where their dock is true. Nothing is evaluated where a test of either side is
 /// decided against, since then it isn't.
 fn ranked<F: Ledger, E: Ledger>(
-    alloc: Global,
-    request: &Request,
+    scene: &QueryScene<'_>,
     ad: &Ad,
-    moment: u64,
     tops: &mut Steps<F>,
     entry: &mut Steps<E>,
 ) -> Result<Option<i128>, OutOfMemory>
-    requires { request.now.ports ≡ [] }
-    ensures rank { IfOk result (λ rank. rank ≡ docks.ranked moment (ad_frames request.now.ad) (ad_frames ad.now)) }
-    ensures evaluations { tops.new ≤ tops.old + evaluations_most (ad_frames request.now.ad) (ad_frames ad.now) }
-    ensures entries { entry.new ≤ entry.old + attributes_most moment (ad_frames request.now.ad) (ad_frames ad.now) }
-    ensures ratio { IsSmall (ad_frames request.now.ad) → IsSmall (ad_frames ad.now) → entry.new + 9216 * tops.old ≤ entry.old + 9216 * tops.new }
+    requires { scene.now.request.now.ports ≡ [] }
+    ensures rank { IfOk result (λ rank. rank ≡ docks.ranked scene.now.moment (asked_in scene.now) (ad_frames ad.now)) }
+    ensures evaluations { tops.new ≤ tops.old + evaluations_most (asked_in scene.now) (ad_frames ad.now) }
+    ensures entries { entry.new ≤ entry.old + attributes_most scene.now.moment (asked_in scene.now) (ad_frames ad.now) }
+    ensures ratio { IsSmall (asked_in scene.now) → IsSmall (ad_frames ad.now) → entry.new + 9216 * tops.old ≤ entry.old + 9216 * tops.new }
 {
-    let Some(sides) = open_sides(alloc, request, 0, ad) else {
+    let request = scene.request;
+    let Some(sides) = open_sides_by_plan(scene.alloc, request, 0, &scene.plan, ad) else {
         return Ok(None);
     };
-    let world = World::new(moment, &request.ad, &request.ports).with(ad);
-    ranked_in(alloc, &world, sides, tops, entry)
+    let world = World::new(scene.moment, &request.ad, &request.ports).with(ad);
+    ranked_in(scene.alloc, &world, sides, tops, entry)
 }
 
 // The rank that the request gives the ad that was docked last, where their dock is true, of which tests leave these sides
@@ -72,23 +72,20 @@ fn ranked_in<F: Ledger, E: Ledger>(
 
 // The match with the ad at a place, if it docks. It counts one in `touch`.
 fn weigh<F: Ledger, E: Ledger, T: Ledger>(
-    alloc: Global,
-    store: &Store,
-    request: &Request,
-    moment: u64,
+    scene: &QueryScene<'_>,
     place: usize,
     meter: &mut Meter<'_, F, E, T>,
 ) -> Result<Option<Match>, OutOfMemory>
-    requires single { request.now.ports ≡ [] }
-    requires held { place < length (stock_of store.now).slots }
-    ensures found { IfOk result (λ found. found ≡ match_at moment (ad_frames request.now.ad) (stock_of store.now).ads place) }
-    ensures spent { Spends meter.old meter.new (evaluations_at (ad_frames request.now.ad) (stock_of store.now).ads place)
-        (attributes_at moment (ad_frames request.now.ad) (stock_of store.now).ads place) 1 }
-    ensures ratio { IsSmall (ad_frames request.now.ad) → AreSmallAds (stock_of store.now).ads → IsPaid meter.old meter.new }
+    requires single { scene.now.request.now.ports ≡ [] }
+    requires held { place < length (stock_of scene.now.store.now).slots }
+    ensures found { IfOk result (λ found. found ≡ match_at scene.now.moment (asked_in scene.now) (ads_in scene.now) place) }
+    ensures spent { Spends meter.old meter.new (evaluations_at (asked_in scene.now) (ads_in scene.now) place)
+        (attributes_at scene.now.moment (asked_in scene.now) (ads_in scene.now) place) 1 }
+    ensures ratio { IsSmall (asked_in scene.now) → AreSmallAds (ads_in scene.now) → IsPaid meter.old meter.new }
     ensures looks { meter.new.touch.now ≡ meter.old.touch.now + 1 }
 {
-    let ad = store.look(store.at(place), meter.touch);
-    let Some(rank) = ranked(alloc, request, ad, moment, meter.tops, meter.entry)? else {
+    let ad = scene.store.look(scene.store.at(place), meter.touch);
+    let Some(rank) = ranked(scene, ad, meter.tops, meter.entry)? else {
         return Ok(None);
     };
     Ok(Some(Match { place, rank }))
@@ -96,24 +93,21 @@ fn weigh<F: Ledger, E: Ledger, T: Ledger>(
 
 /// The matches with the ads at places, one after another.
 pub fn matches_at<F: Ledger, E: Ledger, T: Ledger>(
-    alloc: Global,
-    store: &Store,
-    request: &Request,
-    moment: u64,
+    scene: &QueryScene<'_>,
     places: &Slots,
     meter: &mut Meter<'_, F, E, T>,
 ) -> Result<Vec<Match>, OutOfMemory>
-    requires single { request.now.ports ≡ [] }
-    requires held { All (λ place. place < length (stock_of store.now).slots) places.now }
+    requires single { scene.now.request.now.ports ≡ [] }
+    requires held { All (λ place. place < length (stock_of scene.now.store.now).slots) places.now }
     ensures found { IfOk result (λ found. found.items
-        ≡ filter_map (match_at moment (ad_frames request.now.ad) (stock_of store.now).ads) places.now) }
-    ensures spent { Spends meter.old meter.new (sum_by (evaluations_at (ad_frames request.now.ad) (stock_of store.now).ads) places.now)
-        (sum_by (attributes_at moment (ad_frames request.now.ad) (stock_of store.now).ads) places.now) (length places.now) }
-    ensures ratio { IsSmall (ad_frames request.now.ad) → AreSmallAds (stock_of store.now).ads → IsPaid meter.old meter.new }
+        ≡ filter_map (match_at scene.now.moment (asked_in scene.now) (ads_in scene.now)) places.now) }
+    ensures spent { Spends meter.old meter.new (sum_by (evaluations_at (asked_in scene.now) (ads_in scene.now)) places.now)
+        (sum_by (attributes_at scene.now.moment (asked_in scene.now) (ads_in scene.now)) places.now) (length places.now) }
+    ensures ratio { IsSmall (asked_in scene.now) → AreSmallAds (ads_in scene.now) → IsPaid meter.old meter.new }
 {
-    let mut found = Vec::new(alloc);
+    let mut found = Vec::new(scene.alloc);
     for place in places.as_slice() {
-        let weighed = weigh(alloc, store, request, moment, *place, meter)?;
+        let weighed = weigh(scene, *place, meter)?;
         keep(&mut found, weighed)?;
     }
     Ok(found)

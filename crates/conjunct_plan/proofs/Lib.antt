@@ -1,4 +1,5 @@
 mod ChainLemmas
 mod EnclosedLemmas
+mod PlannedLemmas
 mod TestLemmas
 mod VerdictLemmas

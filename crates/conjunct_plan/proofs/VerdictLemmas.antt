@@ -52,6 +52,27 @@ module _ (fs : List Frame) (f : ℕ) (labels : List (List ℕ)) (other : List Fr
   says-alone (node list ts) is = alone (node list ts) is
   says-alone (frame h) is = alone (frame h) is
 
+-- ---- a verdict and what is said later; `met` tells of what stands before both
+
+pub against-first : (v : Verdict) (ruled each later rest met : Bool) → v ≡ verdict_by ruled each → v ≡ Verdict.Against
+    → verdict_by (ruled || later) (met && (each && rest)) ≡ Verdict.Against
+against-first v true each later rest met says is = refl
+against-first v false true later rest met says is = absurd (cc)
+against-first v false false later rest met says is = absurd (cc)
+
+pub for-first : (v : Verdict) (ruled each later rest met : Bool) → v ≡ verdict_by ruled each → v ≡ Verdict.For
+    → verdict_by later (met && rest) ≡ verdict_by (ruled || later) (met && (each && rest))
+for-first v true each later rest met says is = absurd (cc)
+for-first v false true later rest met says is = refl
+for-first v false false later rest met says is = absurd (cc)
+
+pub open-first : (v : Verdict) (ruled each later rest met : Bool) → v ≡ verdict_by ruled each → v ≡ Verdict.Open
+    → verdict_by later false ≡ verdict_by (ruled || later) (met && (each && rest))
+open-first v true each later rest met says is = absurd (cc)
+open-first v false true later rest met says is = absurd (cc)
+open-first v false false later rest true says is = refl
+open-first v false false later rest false says is = refl
+
 -- ---- conjuncts from an element on; `met` tells of those before it
 
 module _ (F : Tree → Option Test) (D : Test → Bool) (M : Tree → Bool) (ts : List Tree) (i : ℕ) (t : Tree) (here : slice_get ts i ≡ Some t) where
@@ -78,34 +99,18 @@ module _ (F : Tree → Option Test) (D : Test → Bool) (M : Tree → Bool) (ts 
 
   pub against-behind : (v : Verdict) (met : Bool) → Says v → v ≡ Verdict.Against → now met ≡ Verdict.Against
   against-behind v met says is =
-      parted met ∙ by (list_any D (filter_map F (conjuncts t))) (list_all M (conjuncts t)) says
-    where
-      by : (ruled each : Bool) → v ≡ verdict_by ruled each
-          → verdict_by (ruled || list_any D (filter_map F (conjuncts_of_all (from (i + 1))))) (met && (each && list_all M (conjuncts_of_all (from (i + 1)))))
-          ≡ Verdict.Against
-      by true each e = refl
-      by false true e = absurd (cc)
-      by false false e = absurd (cc)
+      parted met
+      ∙ against-first v (list_any D (filter_map F (conjuncts t))) (list_all M (conjuncts t)) (list_any D (filter_map F (conjuncts_of_all (from (i + 1)))))
+      (list_all M (conjuncts_of_all (from (i + 1)))) met says is
 
   pub for-behind : (v : Verdict) (met : Bool) → Says v → v ≡ Verdict.For → later met ≡ now met
   for-behind v met says is =
-      by (list_any D (filter_map F (conjuncts t))) (list_all M (conjuncts t)) says ∙ sym (parted met)
-    where
-      by : (ruled each : Bool) → v ≡ verdict_by ruled each
-          → later met ≡ verdict_by (ruled || list_any D (filter_map F (conjuncts_of_all (from (i + 1))))) (met
-          && (each && list_all M (conjuncts_of_all (from (i + 1)))))
-      by true each e = absurd (cc)
-      by false true e = refl
-      by false false e = absurd (cc)
+      for-first v (list_any D (filter_map F (conjuncts t))) (list_all M (conjuncts t)) (list_any D (filter_map F (conjuncts_of_all (from (i + 1)))))
+      (list_all M (conjuncts_of_all (from (i + 1)))) met says is
+      ∙ sym (parted met)
 
   pub open-behind : (v : Verdict) (met : Bool) → Says v → v ≡ Verdict.Open → later false ≡ now met
   open-behind v met says is =
-      by met (list_any D (filter_map F (conjuncts t))) (list_all M (conjuncts t)) says ∙ sym (parted met)
-    where
-      by : (met ruled each : Bool) → v ≡ verdict_by ruled each
-          → later false ≡ verdict_by (ruled || list_any D (filter_map F (conjuncts_of_all (from (i + 1))))) (met
-          && (each && list_all M (conjuncts_of_all (from (i + 1)))))
-      by met true each e = absurd (cc)
-      by met false true e = absurd (cc)
-      by true false false e = refl
-      by false false false e = refl
+      open-first v (list_any D (filter_map F (conjuncts t))) (list_all M (conjuncts t)) (list_any D (filter_map F (conjuncts_of_all (from (i + 1)))))
+      (list_all M (conjuncts_of_all (from (i + 1)))) met says is
+      ∙ sym (parted met)

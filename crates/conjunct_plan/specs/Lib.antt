@@ -1,3 +1,4 @@
 pub mod Decided
+pub mod Planned
 pub mod Seen
 pub mod Tests

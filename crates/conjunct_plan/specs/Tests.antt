@@ -33,6 +33,11 @@ pub data Side : Type 0 where
   constant : Lit → Side
   neither : Side
 
+-- the name of the attribute that is asked for
+abbrev pub name_of : Side → Option (List ℕ)
+name_of (named n) = Some n
+name_of side = None
+
 -- an own attribute whose expression is a literal
 abbrev pub own_side : Option Tree → Side
 own_side (Some (node (literal lit) ts)) = constant lit

@@ -10,6 +10,7 @@ mod planning;
 mod probe;
 mod ruling;
 mod side;
+mod side_plan;
 mod test;
 mod verdict;
 
@@ -17,6 +18,9 @@ pub use counting::conjunct_count;
 pub use gathering::conjuncts_of;
 pub use picking::conjunct;
 pub use planning::{plan, requirement};
+pub use probe::is_comparison;
 pub use ruling::{decided, rules_out, verdict_of};
+pub use side::asked_by;
+pub use side_plan::SidePlan;
 pub use test::{Test, Tests};
 pub use verdict::Verdict;

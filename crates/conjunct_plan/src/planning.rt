@@ -7,7 +7,6 @@ ghost use Rattle.ad_tree.specs.Tree.{pack, tree, trees};
 ghost use Rattle.conjunct_plan.specs.Tests.{conjuncts, conjuncts_of_all, labels_of, requirement_expr, test_of, tests_of};
 
 use crate::Tests;
-use crate::enclosed::own;
 use crate::probe::probe_of;
 use ad_tree::{Ad, Expr, Exprs, Ports};
 use pool_text::OutOfMemory;
@@ -31,10 +30,8 @@ pub fn requirement<'a>(ad: &'a Ad, frame: u32) -> Option<&'a Expr>
     requires { frame < length (ad_frames ad.now) }
     ensures { option_map (λ e. tree e.now) result ≡ requirement_expr (ad_frames ad.now) frame }
 {
-    match own(ad, frame, b"Requirements") {
-        Some(expr) => Some(expr),
-        None => own(ad, frame, b"Constraint"),
-    }
+    let attr = ad.requirement(frame)?;
+    Some(ad.expr(frame, attr))
 }
 
 // Adds the tests among the conjuncts of an expression.

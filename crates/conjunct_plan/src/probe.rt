@@ -130,8 +130,8 @@ fn comparison_of<'a>(op: BinOp, left: Side<'a>, right: Side<'a>) -> Option<Probe
     }
 }
 
-// Whether tests have this operator.
-fn is_comparison(op: BinOp) -> bool
+/// Whether tests have this operator.
+pub fn is_comparison(op: BinOp) -> bool
     ensures { result ≡ is_comparison op }
 {
     matches!(

@@ -85,8 +85,8 @@ fn verdict_on_all(ad: &Ad, frame: u32, ports: &Ports, items: &Exprs, other: &Ad,
     if met { Verdict::For } else { Verdict::Open }
 }
 
-// What a test says.
-fn verdict_by(probe: Probe<'_>, ad: &Ad, frame: u32) -> Verdict
+/// What a test says.
+pub(crate) fn verdict_by(probe: Probe<'_>, ad: &Ad, frame: u32) -> Verdict
     requires { frame < length (ad_frames ad.now) }
     ensures { result ≡ verdict_by (is_decided (test_seen probe.entry) (ad_frames ad.now) frame) (is_met (test_seen probe.entry) (ad_frames ad.now) frame) }
 {

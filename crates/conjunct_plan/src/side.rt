@@ -5,7 +5,7 @@ ghost use Rattle.ad_tree.specs.Ad.{ad_frames};
 ghost use Rattle.ad_tree.specs.Names.{has_name, same_name};
 ghost use Rattle.ad_tree.specs.Tree.{tree};
 ghost use Rattle.conjunct_plan.specs.Seen.{side_seen};
-ghost use Rattle.conjunct_plan.specs.Tests.{bare_side, labels_of, own_side, side_of};
+ghost use Rattle.conjunct_plan.specs.Tests.{bare_side, labels_of, name_of, own_side, side_of};
 
 use crate::enclosed::{enclosed, own};
 use ad_tree::{Ad, Expr, Port, Ports, Scope};
@@ -33,6 +33,18 @@ pub(crate) fn side_of<'a>(ad: &'a Ad, frame: u32, ports: &Ports, expr: &'a Expr)
             bare_side(ports, name, enclosed(ad, frame, name.bytes()))
         }
         _ => Side::Neither,
+    }
+}
+
+/// The name of the attribute of the other side that an expression asks for alone, if it does, in a frame of an ad with these
+/// ports.
+pub fn asked_by<'a>(ad: &'a Ad, frame: u32, ports: &Ports, expr: &'a Expr) -> Option<&'a Text>
+    requires { frame < length (ad_frames ad.now) }
+    ensures { option_map (λ name. name.now) result ≡ name_of (side_of (ad_frames ad.now) frame (labels_of ports.now) (tree expr.now)) }
+{
+    match side_of(ad, frame, ports, expr) {
+        Side::Named(name) => Some(name),
+        _ => None,
     }
 }
 

@@ -14,7 +14,7 @@ use std::alloc::Global;
 use std::collections::HashMap;
 
 /// Most evaluations enter no more attributes than these, and then the guard takes no memory.
-const INLINE: usize = 8;
+const INLINE: usize = 4;
 
 /// So many attributes are looked through in turn, in fewer steps than a hash takes. Few evaluations enter more.
 const FIRST: usize = 64;

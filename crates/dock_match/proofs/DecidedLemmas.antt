@@ -19,7 +19,7 @@ use Rattle.ad_eval.specs.Dock.{attribute_of, is_docked, meets_requirement}
 use Rattle.ad_eval.specs.Value.{evaluation_at, value_at, value_by, value_with}
 use Rattle.conjunct_plan.specs.declared.test.Test.{Test}
 use Rattle.conjunct_plan.specs.Decided.{is_decided, rules_out, test_value}
-use Rattle.conjunct_plan.specs.Tests.{conjuncts, labels_of, test_of}
+use Rattle.conjunct_plan.specs.Tests.{conjuncts, labels_of, requirement_expr, test_of}
 use Rattle.dock_match.specs.Docks.{is_last_decided, last_ad}
 use Rattle.dock_match.proofs.ConjunctLemmas.{IsTrueAt, conjuncts-true}
 use Rattle.dock_match.proofs.FindLemmas.{Finds, finds-alone, finds-enclosed, unlabelled}
@@ -53,22 +53,9 @@ true-is (text bytes) e = absurd (cc)
 true-is (list items) e = absurd (cc)
 true-is (ad_at place) e = absurd (cc)
 
--- ---- one side
+-- ---- a requirement
 
-module _ (w : PlainWorld) (p : AdPlace) (ls : List (List ℕ)) (other : List Frame) (g : ℕ) (side : IsSide w p (frames_of_ad w p.ad) ls other g) where
-  -- a true conjunct has no test that is decided against
-  not-decided : (n : ℕ) (t : Tree) (test : Test) → test_of (frames_of_ad w p.ad) p.frame ls t ≡ Some test → is_decided test other g ≡ true
-      → IsTrueAt (value_at (suc n) w) w p t → ⊥
-  not-decided n t test is decided holds = by (test_value test other g) refl decided
-    where
-      by : (o : Option Plain) → test_value test other g ≡ o → option_map_or (λ value. not (is_true value)) o false ≡ true → ⊥
-      by None has h = cc
-      by (Some v) has h =
-          let given : Some v ≡ Some (boolean true) = sym (conjunct-value w n p (frames_of_ad w p.ad) ls other g side t test v is has) ∙ holds in
-          let same : v ≡ boolean true = cc in
-          let turned : false ≡ true = ap (λ z. not (is_true z)) (sym same) ∙ h in
-          cc
-
+module _ (w : PlainWorld) (p : AdPlace) where
   true-value : (o : Option Plain) → is_true (unwrap_or o error) ≡ true → o ≡ Some (boolean true)
   true-value None e = absurd (cc)
   true-value (Some v) e = ap Some (true-is v e)
@@ -78,27 +65,53 @@ module _ (w : PlainWorld) (p : AdPlace) (ls : List (List ℕ)) (other : List Fra
   unfolding value_at
   attribute-value n k t is = ap (option_and_then (value_by (value_at n w) w p)) is
 
-  -- a requirement with such a test is not true
-  pub not-met : rules_out (frames_of_ad w p.ad) p.frame ls other g ≡ true → meets_requirement w p ≡ true → ⊥
-  not-met ruled met = by (requirement_of (frames_of_ad w p.ad) p.frame) ruled met
+  -- a requirement of which a test is decided against is not true, where no true conjunct has such a test
+  pub none-met : (F : Tree → Option Test) (D : Test → Bool)
+      → ((t : Tree) (test : Test) → F t ≡ Some test → D test ≡ true → IsTrueAt (value_at 23 w) w p t → ⊥)
+      → list_any D (option_map_or (λ t. filter_map F (conjuncts t)) (requirement_expr (frames_of_ad w p.ad) p.frame) []) ≡ true
+      → meets_requirement w p ≡ true → ⊥
+  none-met F D never ruled met = by (requirement_of (frames_of_ad w p.ad) p.frame) ruled met
     where
       by_expr : (k : ℕ) (o : Option Tree) → expr_at (frames_of_ad w p.ad) p.frame k ≡ o
-          → list_any (λ test. is_decided test other g) (option_map_or (λ t. filter_map (test_of (frames_of_ad w p.ad) p.frame ls) (conjuncts t)) o [])
-          ≡ true
+          → list_any D (option_map_or (λ t. filter_map F (conjuncts t)) o []) ≡ true
           → is_true (evaluation_at w (attribute_of p k)) ≡ true → ⊥
       by_expr k None is h holds = cc
       by_expr k (Some t) is h holds =
           let whole : value_with 23 w p t ≡ Some (boolean true) = sym (attribute-value 23 k t is) ∙ true-value (value_at 24 w (attribute_of p k)) holds in
-          none-decided (test_of (frames_of_ad w p.ad) p.frame ls) (λ test. is_decided test other g) (IsTrueAt (value_at 23 w) w p) (not-decided 22)
-          (conjuncts t) h
-          (conjuncts-true (value_at 23 w) w p t whole)
+          none-decided F D (IsTrueAt (value_at 23 w) w p) never (conjuncts t) h (conjuncts-true (value_at 23 w) w p t whole)
 
       by : (o : Option ℕ)
-          → list_any (λ test. is_decided test other g) (option_map_or (λ t. filter_map (test_of (frames_of_ad w p.ad) p.frame ls) (conjuncts t))
-          (option_and_then (λ k. expr_at (frames_of_ad w p.ad) p.frame k) o) []) ≡ true
+          → list_any D (option_map_or (λ t. filter_map F (conjuncts t)) (option_and_then (λ k. expr_at (frames_of_ad w p.ad) p.frame k) o) []) ≡ true
           → option_map_or (λ k. is_true (evaluation_at w (attribute_of p k))) o false ≡ true → ⊥
       by None h holds = cc
       by (Some k) h holds = by_expr k (expr_at (frames_of_ad w p.ad) p.frame k) refl h holds
+
+  -- a conjunct isn't true whose value is that of a test that is decided against
+  pub none-true : (n : ℕ) (t : Tree) (test : Test) (other : List Frame) (g : ℕ)
+      → ((v : Plain) → test_value test other g ≡ Some v → value_with (suc n) w p t ≡ Some v)
+      → is_decided test other g ≡ true → IsTrueAt (value_at (suc n) w) w p t → ⊥
+  none-true n t test other g value decided holds = by (test_value test other g) refl decided
+    where
+      by : (o : Option Plain) → test_value test other g ≡ o → option_map_or (λ value. not (is_true value)) o false ≡ true → ⊥
+      by None has h = cc
+      by (Some v) has h =
+          let given : Some v ≡ Some (boolean true) = sym (value v has) ∙ holds in
+          let same : v ≡ boolean true = cc in
+          let turned : false ≡ true = ap (λ z. not (is_true z)) (sym same) ∙ h in
+          cc
+
+-- ---- one side
+
+module _ (w : PlainWorld) (p : AdPlace) (ls : List (List ℕ)) (other : List Frame) (g : ℕ) (side : IsSide w p (frames_of_ad w p.ad) ls other g) where
+  -- a true conjunct has no test that is decided against
+  not-decided : (n : ℕ) (t : Tree) (test : Test) → test_of (frames_of_ad w p.ad) p.frame ls t ≡ Some test → is_decided test other g ≡ true
+      → IsTrueAt (value_at (suc n) w) w p t → ⊥
+  not-decided n t test is =
+      none-true w p n t test other g (λ v has. conjunct-value w n p (frames_of_ad w p.ad) ls other g side t test v is has)
+
+  -- a requirement with such a test is not true
+  pub not-met : rules_out (frames_of_ad w p.ad) p.frame ls other g ≡ true → meets_requirement w p ≡ true → ⊥
+  not-met = none-met w p (test_of (frames_of_ad w p.ad) p.frame ls) (λ test. is_decided test other g) (not-decided 22)
 
 -- ---- both sides
 

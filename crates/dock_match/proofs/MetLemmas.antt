@@ -83,7 +83,7 @@ module _ (w : PlainWorld) (p : AdPlace) (ls : List (List ℕ)) (other : List Fra
       by_expr k None is h = absurd (cc)
       by_expr k (Some t) is h =
           ap (λ (v : Option Plain). is_true (unwrap_or v error))
-          (attribute-value w p ls other g side 23 k t is ∙ all-hold (value_at 23 w) w p (is_met_test (frames_of_ad w p.ad) p.frame ls other g) (test-holds
+          (attribute-value w p 23 k t is ∙ all-hold (value_at 23 w) w p (is_met_test (frames_of_ad w p.ad) p.frame ls other g) (test-holds
           22) t h)
 
       by : (o : Option ℕ)

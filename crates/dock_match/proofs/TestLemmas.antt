@@ -54,6 +54,64 @@ option_map-itself : {A : Type 0} (o : Option A) → option_map (λ a. a) o ≡ o
 option_map-itself None = refl
 option_map-itself (Some a) = refl
 
+-- ---- comparisons of what has a value
+
+module _ (w : PlainWorld) (n : ℕ) (p : AdPlace) (other : List Frame) (g : ℕ) where
+  -- an expression at p has the value of what it is, beside frame g of the other ad
+  abbrev pub Means : Tree → Side → Type 0
+  Means t (constant lit) = value_with (suc n) w p t ≡ Some (plain_of_lit lit)
+  Means t (asked_of x) = (v : Plain) → counted (enclosed_expr other g x) ≡ Some v → value_with (suc n) w p t ≡ Some v
+  Means t neither = Unit {0}
+
+  -- two values give one
+  both-values : (op : BinOp) (a b : Tree) (u v : Plain) → value_with (suc n) w p a ≡ Some u → value_with (suc n) w p b ≡ Some v
+      → value_with (suc n) w p (node (binary op) (more a (more b none))) ≡ Some (binary_value op u v)
+  both-values op a b u v left right =
+      ap (option_and_then (λ x. option_map (binary_value op x) (value_with (suc n) w p b))) left
+      ∙ ap (option_map (binary_value op u)) right
+
+  asked-left : (op : BinOp) (a b : Tree) (x : List ℕ) (lit : Lit) (v : Plain) → Means a (asked_of x) → Means b (constant lit)
+      → (o : Option Plain) → counted (enclosed_expr other g x) ≡ o → option_map (λ y. binary_value op y (plain_of_lit lit)) o ≡ Some v
+      → value_with (suc n) w p (node (binary op) (more a (more b none))) ≡ Some v
+  asked-left op a b x lit v left right None is e = absurd (none-plain v e)
+  asked-left op a b x lit v left right (Some y) is e = both-values op a b y (plain_of_lit lit) (left y is) right ∙ e
+
+  asked-right : (op : BinOp) (a b : Tree) (x : List ℕ) (lit : Lit) (v : Plain) → Means a (constant lit) → Means b (asked_of x)
+      → (o : Option Plain) → counted (enclosed_expr other g x) ≡ o → option_map (λ y. binary_value op (plain_of_lit lit) y) o ≡ Some v
+      → value_with (suc n) w p (node (binary op) (more a (more b none))) ≡ Some v
+  asked-right op a b x lit v left right None is e = absurd (none-plain v e)
+  asked-right op a b x lit v left right (Some y) is e = both-values op a b (plain_of_lit lit) y left (right y is) ∙ e
+
+  -- a comparison has the value of its test
+  pub comparison-value : (op : BinOp) (a b : Tree) (s t : Side) (test : Test) (v : Plain) → Means a s → Means b t
+      → comparison_of op s t ≡ Some test → test_value test other g ≡ Some v
+      → value_with (suc n) w p (node (binary op) (more a (more b none))) ≡ Some v
+  comparison-value op a b (asked_of x) (constant lit) test v left right e has = by (is_comparison op) e
+    where
+      by : (c : Bool) → (if c then Some (Test.Compare x op lit true) else None) ≡ Some test
+          → value_with (suc n) w p (node (binary op) (more a (more b none))) ≡ Some v
+      by true h =
+          let same : Test.Compare x op lit true ≡ test = cc in
+          asked-left op a b x lit v left right (counted (enclosed_expr other g x)) refl (ap (λ z. test_value z other g) same ∙ has)
+      by false h = absurd (cc)
+  comparison-value op a b (constant lit) (asked_of x) test v left right e has = by (is_comparison op) e
+    where
+      by : (c : Bool) → (if c then Some (Test.Compare x op lit false) else None) ≡ Some test
+          → value_with (suc n) w p (node (binary op) (more a (more b none))) ≡ Some v
+      by true h =
+          let same : Test.Compare x op lit false ≡ test = cc in
+          asked-right op a b x lit v left right (counted (enclosed_expr other g x)) refl (ap (λ z. test_value z other g) same ∙ has)
+      by false h = absurd (cc)
+  comparison-value op a b (asked_of x) (asked_of y) test v left right e has = absurd (none-test test e)
+  comparison-value op a b (asked_of x) neither test v left right e has = absurd (none-test test e)
+  comparison-value op a b (constant lit) (constant l) test v left right e has = absurd (none-test test e)
+  comparison-value op a b (constant lit) neither test v left right e has = absurd (none-test test e)
+  comparison-value op a b neither (asked_of y) test v left right e has = absurd (none-test test e)
+  comparison-value op a b neither (constant l) test v left right e has = absurd (none-test test e)
+  comparison-value op a b neither neither test v left right e has = absurd (none-test test e)
+
+-- ---- a side of a dock
+
 module _ (w : PlainWorld) (n : ℕ) (p : AdPlace) (fs : List Frame) (ls : List (List ℕ)) (other : List Frame) (g : ℕ)
     (side : IsSide w p fs ls other g) where
   -- ---- what stands on a side of a test
@@ -147,53 +205,11 @@ module _ (w : PlainWorld) (n : ℕ) (p : AdPlace) (fs : List Frame) (ls : List (
   truth-value t (constant lit) test v is e has = absurd (none-test test e)
   truth-value t neither test v is e has = absurd (none-test test e)
 
-  -- two values give one
-  both-values : (op : BinOp) (a b : Tree) (u v : Plain) → value_with (suc n) w p a ≡ Some u → value_with (suc n) w p b ≡ Some v
-      → value_with (suc n) w p (node (binary op) (more a (more b none))) ≡ Some (binary_value op u v)
-  both-values op a b u v left right =
-      ap (option_and_then (λ x. option_map (binary_value op x) (value_with (suc n) w p b))) left
-      ∙ ap (option_map (binary_value op u)) right
-
-  asked-left : (op : BinOp) (a b : Tree) (x : List ℕ) (lit : Lit) (v : Plain) → side_of fs p.frame ls a ≡ asked_of x
-      → side_of fs p.frame ls b ≡ constant lit
-      → (o : Option Plain) → counted (enclosed_expr other g x) ≡ o → option_map (λ y. binary_value op y (plain_of_lit lit)) o ≡ Some v
-      → value_with (suc n) w p (node (binary op) (more a (more b none))) ≡ Some v
-  asked-left op a b x lit v left right None is e = absurd (none-plain v e)
-  asked-left op a b x lit v left right (Some y) is e = both-values op a b y (plain_of_lit lit) (asked-value a x y left is) (constant-value b lit right) ∙ e
-
-  asked-right : (op : BinOp) (a b : Tree) (x : List ℕ) (lit : Lit) (v : Plain) → side_of fs p.frame ls a ≡ constant lit
-      → side_of fs p.frame ls b ≡ asked_of x
-      → (o : Option Plain) → counted (enclosed_expr other g x) ≡ o → option_map (λ y. binary_value op (plain_of_lit lit) y) o ≡ Some v
-      → value_with (suc n) w p (node (binary op) (more a (more b none))) ≡ Some v
-  asked-right op a b x lit v left right None is e = absurd (none-plain v e)
-  asked-right op a b x lit v left right (Some y) is e = both-values op a b (plain_of_lit lit) y (constant-value a lit left) (asked-value b x y right is) ∙ e
-
-  comparison-value : (op : BinOp) (a b : Tree) (s t : Side) (test : Test) (v : Plain) → side_of fs p.frame ls a ≡ s → side_of fs p.frame ls b ≡ t
-      → comparison_of op s t ≡ Some test → test_value test other g ≡ Some v
-      → value_with (suc n) w p (node (binary op) (more a (more b none))) ≡ Some v
-  comparison-value op a b (asked_of x) (constant lit) test v left right e has = by (is_comparison op) e
-    where
-      by : (c : Bool) → (if c then Some (Test.Compare x op lit true) else None) ≡ Some test
-          → value_with (suc n) w p (node (binary op) (more a (more b none))) ≡ Some v
-      by true h =
-          let same : Test.Compare x op lit true ≡ test = cc in
-          asked-left op a b x lit v left right (counted (enclosed_expr other g x)) refl (ap (λ z. test_value z other g) same ∙ has)
-      by false h = absurd (cc)
-  comparison-value op a b (constant lit) (asked_of x) test v left right e has = by (is_comparison op) e
-    where
-      by : (c : Bool) → (if c then Some (Test.Compare x op lit false) else None) ≡ Some test
-          → value_with (suc n) w p (node (binary op) (more a (more b none))) ≡ Some v
-      by true h =
-          let same : Test.Compare x op lit false ≡ test = cc in
-          asked-right op a b x lit v left right (counted (enclosed_expr other g x)) refl (ap (λ z. test_value z other g) same ∙ has)
-      by false h = absurd (cc)
-  comparison-value op a b (asked_of x) (asked_of y) test v left right e has = absurd (none-test test e)
-  comparison-value op a b (asked_of x) neither test v left right e has = absurd (none-test test e)
-  comparison-value op a b (constant lit) (constant l) test v left right e has = absurd (none-test test e)
-  comparison-value op a b (constant lit) neither test v left right e has = absurd (none-test test e)
-  comparison-value op a b neither (asked_of y) test v left right e has = absurd (none-test test e)
-  comparison-value op a b neither (constant l) test v left right e has = absurd (none-test test e)
-  comparison-value op a b neither neither test v left right e has = absurd (none-test test e)
+  -- so it has the value of what it is
+  pub means-side : (t : Tree) (s : Side) → side_of fs p.frame ls t ≡ s → Means w n p other g t s
+  means-side t (asked_of x) is = λ v counts. asked-value t x v is counts
+  means-side t (constant lit) is = constant-value t lit is
+  means-side t neither is = tt
 
   -- where a test has a value, its conjunct has that value
   pub conjunct-value : (t : Tree) (test : Test) (v : Plain) → test_of fs p.frame ls t ≡ Some test → test_value test other g ≡ Some v
@@ -204,7 +220,8 @@ module _ (w : PlainWorld) (n : ℕ) (p : AdPlace) (fs : List Frame) (ls : List (
   conjunct-value (node (binary op) none) test v e has = absurd (none-test test e)
   conjunct-value (node (binary op) (more a none)) test v e has = absurd (none-test test e)
   conjunct-value (node (binary op) (more a (more b none))) test v e has =
-      comparison-value op a b (side_of fs p.frame ls a) (side_of fs p.frame ls b) test v refl refl e has
+      comparison-value w n p other g op a b (side_of fs p.frame ls a) (side_of fs p.frame ls b) test v
+      (means-side a (side_of fs p.frame ls a) refl) (means-side b (side_of fs p.frame ls b) refl) e has
   conjunct-value (node (binary op) (more a (more b (more c ts)))) test v e has = absurd (none-test test e)
   conjunct-value (node all ts) test v e has = absurd (none-test test e)
   conjunct-value (node any ts) test v e has = absurd (none-test test e)

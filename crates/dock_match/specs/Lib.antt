@@ -1,4 +1,5 @@
 pub mod Docks
+pub mod Late
 pub mod Pool
 pub mod Preemption
 pub mod Sides

@@ -1,6 +1,7 @@
 // Laws of the definitions, each on a function that does nothing.
-ghost use Rattle.std.specs.Prelude.{◌≡◌, ◌<◌, ℕ, suc, false, true, [], All, Some, length};
+ghost use Rattle.std.specs.Prelude.{◌≡◌, ◌<◌, ℕ, suc, false, true, [], All, List, Some, length};
 ghost use Rattle.ad_value.specs.Plain.{Plain, boolean};
+ghost use Rattle.ad_tree.specs.Frames.{Frame};
 ghost use Rattle.ad_tree.specs.Tree.{tree};
 ghost use Rattle.ad_eval.specs.Dock.{is_docked, meets_requirement};
 ghost use Rattle.ad_eval.specs.Value.{value_with};
@@ -8,8 +9,9 @@ ghost use Rattle.conjunct_plan.specs.declared.test.Test.{Test};
 ghost use Rattle.conjunct_plan.specs.Decided.{is_side_met, test_value};
 ghost use Rattle.conjunct_plan.specs.Tests.{conjuncts, labels_of, test_of};
 ghost use Rattle.eval_scope.specs.Shown.{world_of};
-ghost use Rattle.eval_scope.specs.World.{request_side, resource_side};
+ghost use Rattle.eval_scope.specs.World.{next_side, request_side, resource_side, with_docked};
 ghost use Rattle.dock_match.specs.Docks.{is_last_decided, last_ad, last_open};
+ghost use Rattle.dock_match.specs.Late.{is_ruled_out, late_test, late_tests};
 
 use ad_tree::Expr;
 use eval_scope::World;
@@ -45,6 +47,17 @@ pub fn a_conjunction_is_true_only_where_its_conjuncts_are(
 pub fn a_decided_dock_is_never_true(world: &World<'_>)
     ensures { let w = world_of world.now in
         0 < length w.docked → is_last_decided w ≡ true → is_docked w ≡ false }
+{}
+
+/// Where a test by what is docked has a value by the literals of another ad, its conjunct evaluates to that very value once
+/// that ad is docked, with any number of references from one on; and where one is decided against, the dock of that ad isn't
+/// true: so it needs no evaluation.
+pub fn a_dock_that_a_late_test_decides_is_never_true(world: &World<'_>, expr: &Expr)
+    ensures value { (n : ℕ) (ad : List Frame) (test : Test) (v : Plain) → let w = world_of world.now in
+        late_test w (tree expr.now) ≡ Some test → test_value test ad 0 ≡ Some v
+        → value_with (suc n) (with_docked w ad) (next_side w) (tree expr.now) ≡ Some v }
+    ensures dock { (ad : List Frame) → let w = world_of world.now in
+        is_ruled_out (late_tests w) ad ≡ true → is_docked (with_docked w ad) ≡ false }
 {}
 
 /// A requirement each of whose conjuncts is a test that is met by the other side is true, and so is a dock of two such sides:

@@ -3,15 +3,16 @@ ghost use Rattle.std.specs.Prelude.{◌≡◌, ◌≤◌, ◌<◌, ◌+◌, ◌*
 ghost use Rattle.ad_tree.specs.Ad.{ad_frames};
 ghost use Rattle.ad_eval.specs.Dock.{is_docked, meets_requirement};
 ghost use Rattle.ad_eval.specs.Small.{AreSmall};
+ghost use Rattle.conjunct_plan.specs.Planned.{IsPlanOf};
 ghost use Rattle.conjunct_plan.specs.Tests.{labels_of};
 ghost use Rattle.eval_scope.specs.Shown.{world_of};
 ghost use Rattle.eval_scope.specs.World.{attribute_count};
 ghost use Rattle.dock_match.specs.Docks.{evaluations_of_sides, last_open};
-ghost use Rattle.dock_match.specs.Sides.{is_open, open_sides};
+ghost use Rattle.dock_match.specs.Sides.{is_open, open_beside, open_sides};
 
 use ad_eval::requirement;
 use ad_tree::{Ad, Ports, Request};
-use conjunct_plan::{Verdict, verdict_of};
+use conjunct_plan::{SidePlan, Verdict, verdict_of};
 use eval_scope::World;
 use pool_steps::Steps;
 use pool_text::{AdPlace, OutOfMemory};
@@ -31,7 +32,37 @@ pub fn open_sides(alloc: Global, request: &Request, frame: u32, ad: &Ad) -> Opti
     requires { frame < length (ad_frames request.now.ad) }
     ensures { result ≡ open_sides (ad_frames request.now.ad) frame (labels_of request.now.ports) (ad_frames ad.now) }
 {
-    let asking = is_open(verdict_of(&request.ad, frame, &request.ports, ad, 0))?;
+    let asked = verdict_of(&request.ad, frame, &request.ports, ad, 0);
+    open_beside(alloc, asked, request, frame, ad)
+}
+
+/// The same sides, by a plan of the frame of the request, which is made once for all ads. No memory is taken.
+pub fn open_sides_by_plan(
+    alloc: Global,
+    request: &Request,
+    frame: u32,
+    plan: &SidePlan<'_>,
+    ad: &Ad,
+) -> Option<OpenSides>
+    requires frame { frame < length (ad_frames request.now.ad) }
+    requires planned { IsPlanOf plan.now (ad_frames request.now.ad) frame (labels_of request.now.ports) }
+    ensures { result ≡ open_sides (ad_frames request.now.ad) frame (labels_of request.now.ports) (ad_frames ad.now) }
+{
+    open_beside(alloc, plan.verdict(ad, 0), request, frame, ad)
+}
+
+// The same sides, where tests say this of the request's side.
+fn open_beside(
+    alloc: Global,
+    asked: Verdict,
+    request: &Request,
+    frame: u32,
+    ad: &Ad,
+) -> Option<OpenSides>
+    requires { frame < length (ad_frames request.now.ad) }
+    ensures { result ≡ open_beside asked (ad_frames request.now.ad) frame (ad_frames ad.now) }
+{
+    let asking = is_open(asked)?;
     let no_ports = Ports::new(alloc);
     let answering = is_open(verdict_of(ad, 0, &no_ports, &request.ad, frame))?;
     Some(OpenSides {

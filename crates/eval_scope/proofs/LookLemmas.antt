@@ -1,6 +1,7 @@
 -- Looking through candidates one after another.
 use Rattle.std.proofs.Common.{◌≡◌, ◌≤◌, ◌<◌, ℕ, zero, suc, zero-le, min, refl, Bool, List, [], ◌∷◌, ◌++◌, length, map, take, drop, slice_get, position}
-use Rattle.std.proofs.Common.{option_map, Option, Some, None, IsSome, unwrap_or, Bor, true, false, cond, ap, sym, ◌∙◌, subst, arith}
+use Rattle.std.proofs.Common.{option_map, Option, Some, None, IsSome, unwrap_or, Bor, true, false, cond, codes, ap, sym, ◌∙◌, subst, arith}
+use Rattle.std.specs.Option.{option_or}
 use Rattle.std.proofs.lemmas.List.{drop_all, length-map}
 use Rattle.std.proofs.lemmas.List.Quantifiers.{position-Some}
 use Rattle.pool_text.specs.declared.language.AdPlace.{AdPlace}
@@ -10,11 +11,12 @@ use Rattle.ad_tree.specs.declared.request.Port.{Port}
 use Rattle.ad_tree.specs.Ad.{ad_frames}
 use Rattle.ad_tree.specs.Enclosing.{upward}
 use Rattle.ad_tree.specs.Names.{same_name}
+use Rattle.ad_tree.specs.Special.{attribute_named}
 use Rattle.ad_tree.specs.Frames.{Frame, attributes_at, names_in, parent_of}
 use Rattle.eval_scope.specs.declared.found.Found.{Found}
 use Rattle.eval_scope.specs.declared.world.World.{World}
 use Rattle.eval_scope.specs.Look.{Candidate, in_frame, label_of, IsThere, attribute_in, enclosing, enclosing_any, first_found, found_at, found_attribute}
-use Rattle.eval_scope.specs.Look.{labels_from, or_else}
+use Rattle.eval_scope.specs.Look.{labels_from, or_else, requirement_at}
 use Rattle.eval_scope.specs.Shown.{world_of}
 use Rattle.eval_scope.specs.World.{PlainWorld, expr_of, frames_of_ad}
 
@@ -191,6 +193,24 @@ attribute_in-there w p name s found = by (position (same_name name) (names_in (f
         let first = position-Some (same_name name) (names_in (frames_of_ad w p.ad) p.frame) k [] e in
         let within : k < length attributes = omega (arith, first.0, length-map attributes (λ a. a.0)) in
         subst (λ t. IsSome (expr_of w t)) same (IsSome-within (λ a. a.1) attributes k within)
+
+pub requirement_at-there : (w : PlainWorld) (p : AdPlace) (s : Pos) → requirement_at w p ≡ Some s → IsSome (expr_of w s)
+requirement_at-there w p s found = by (attribute_named fs p.frame (codes "Requirements")) refl
+  where
+    fs : List Frame
+    fs = frames_of_ad w p.ad
+
+    other : Option ℕ
+    other = attribute_named fs p.frame (codes "Constraint")
+
+    place : ℕ → Pos
+    place k = record { ad = p.ad; frame = p.frame; attr = k }
+
+    by : (o : Option ℕ) → attribute_named fs p.frame (codes "Requirements") ≡ o → IsSome (expr_of w s)
+    by None e = attribute_in-there w p (codes "Constraint") s (sym (ap (λ o. option_map place (option_or o other)) e) ∙ found)
+    by (Some k) e =
+        attribute_in-there w p (codes "Requirements") s
+        (ap (option_map place) e ∙ sym (ap (λ o. option_map place (option_or o other)) e) ∙ found)
 
 IsThere-or_else : (w : PlainWorld) (a b : Found) → IsThere w a → IsThere w b → IsThere w (or_else a b)
 IsThere-or_else w Found.Nothing b h k = k

@@ -5,7 +5,7 @@ use Rattle.pool_text.specs.declared.language.Pos.{Pos}
 use Rattle.ad_tree.specs.declared.tree.Scope.{Scope}
 use Rattle.ad_tree.specs.declared.request.Port.{Port}
 use Rattle.ad_tree.specs.Enclosing.{enclosing_frames}
-use Rattle.ad_tree.specs.Special.{attribute_named}
+use Rattle.ad_tree.specs.Special.{attribute_named, rank_of, requirement_of}
 use Rattle.ad_tree.specs.Names.{same_name}
 use Rattle.ad_tree.specs.Frames.{Frame}
 use Rattle.eval_scope.specs.declared.found.Found.{Found}
@@ -20,6 +20,13 @@ pub data Candidate : Type 0 where
 abbrev pub attribute_in : PlainWorld → AdPlace → List ℕ → Option Pos
 attribute_in w p name =
     option_map (λ k. record { ad = p.ad; frame = p.frame; attr = k }) (attribute_named (frames_of_ad w p.ad) p.frame name)
+
+-- the requirement of the frame at a place, and its rank, where it has one
+abbrev pub requirement_at : PlainWorld → AdPlace → Option Pos
+requirement_at w p = option_map (λ k. record { ad = p.ad; frame = p.frame; attr = k }) (requirement_of (frames_of_ad w p.ad) p.frame)
+
+abbrev pub rank_at : PlainWorld → AdPlace → Option Pos
+rank_at w p = option_map (λ k. record { ad = p.ad; frame = p.frame; attr = k }) (rank_of (frames_of_ad w p.ad) p.frame)
 
 -- what a name finds where an attribute of that name may be
 abbrev pub found_attribute : Option Pos → Found

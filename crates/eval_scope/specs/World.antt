@@ -1,9 +1,10 @@
 -- The world in which expressions have their values, apart from how it lies in memory.
 use Rattle.std.specs.Prelude.{ℕ, zero, suc, ◌-◌, cond, List, [], ◌∷◌, ◌++◌, length, Option, Some, None, option_map, unwrap_or, slice_get, sum_by, nat_eq}
 use Rattle.pool_text.specs.declared.language.AdPlace.{AdPlace}
+use Rattle.pool_text.specs.declared.language.Lit.{Lit}
 use Rattle.pool_text.specs.declared.language.Pos.{Pos}
 use Rattle.ad_tree.specs.declared.request.Port.{Port}
-use Rattle.ad_tree.specs.Tree.{Tree}
+use Rattle.ad_tree.specs.Tree.{Tree, node, literal}
 use Rattle.ad_tree.specs.Frames.{Frame, attributes_at, expr_at}
 
 -- ---- worlds
@@ -35,6 +36,11 @@ attribute_count w = sum_by (λ fs. sum_by (λ f. length f.attributes) fs) (ads w
 abbrev pub expr_of : PlainWorld → Pos → Option Tree
 expr_of w s = expr_at (frames_of_ad w s.ad) s.frame s.attr
 
+-- the literal that an attribute's expression is, none where it is anything else
+abbrev pub literal_of : Option Tree → Option Lit
+literal_of (Some (node (literal lit) ts)) = Some lit
+literal_of found = None
+
 -- the frame in which an attribute stands
 abbrev pub frame_of_attribute : Pos → AdPlace
 frame_of_attribute s = record { ad = s.ad; frame = s.frame }
@@ -52,6 +58,10 @@ port_frame ports k = unwrap_or (option_map (λ port. port.frame) (slice_get port
 -- the request's side of the last dock: the frame of its port, and the root of a single request
 abbrev pub request_side : PlainWorld → AdPlace
 request_side w = record { ad = 0; frame = port_frame w.ports (length w.docked) }
+
+-- the request's side of the dock of the next ad
+abbrev pub next_side : PlainWorld → AdPlace
+next_side w = record { ad = 0; frame = port_frame w.ports (suc (length w.docked)) }
 
 -- the resource's side of the last dock: the root of the ad that was docked last
 abbrev pub resource_side : PlainWorld → AdPlace

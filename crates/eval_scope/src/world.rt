@@ -1,5 +1,6 @@
 // A world: a request with the ads that are docked to it.
 ghost use Rattle.std.specs.Prelude.{◌≡◌, ◌≤◌, ◌<◌, ◌+◌, ◌-◌, ◌^◌, [], length, slice_get, slice_set, option_map, sum_by, min, Some, IsSome, IfSome};
+ghost use Rattle.std.specs.Option.{option_copied};
 ghost use Rattle.ad_tree.specs.Tree.{tree};
 ghost use Rattle.ad_tree.specs.Frames.{parent_of};
 ghost use Rattle.ad_tree.specs.Names.{same_name};
@@ -7,7 +8,7 @@ ghost use Rattle.ad_tree.specs.Ad.{ad_frames};
 
 use ad_tree::{Ad, Expr, Ports};
 use pool_steps::Steps;
-use pool_text::{AdPlace, Pos, same_folded};
+use pool_text::{AdPlace, Lit, Pos, same_folded};
 use std::sync::ledger::Ledger;
 
 /// As many ads can be docked as a gang has ports at most.
@@ -26,9 +27,9 @@ pub struct World<'a> {
 }
 
 impl<'a> World<'a> {
-    ghost use Rattle.eval_scope.specs.World.{ads, attribute_count, expr_of, frames_of_ad, port_frame, request_side, resource_side, size_at, target};
-    ghost use Rattle.eval_scope.specs.World.{with_docked};
-    ghost use Rattle.eval_scope.specs.Look.{attribute_in};
+    ghost use Rattle.eval_scope.specs.World.{ads, attribute_count, expr_of, frames_of_ad, literal_of, next_side, port_frame, request_side};
+    ghost use Rattle.eval_scope.specs.World.{resource_side, size_at, target, with_docked};
+    ghost use Rattle.eval_scope.specs.Look.{attribute_in, rank_at, requirement_at};
     ghost use Rattle.eval_scope.specs.Shown.{world_of};
 
     /// The world of a request with nothing docked.
@@ -70,6 +71,30 @@ impl<'a> World<'a> {
         ensures { result ≡ (world_of self.now).moment }
     {
         self.moment
+    }
+
+    /// The ad of the request.
+    pub fn request(&self) -> &'a Ad
+        ensures { ad_frames result.now ≡ (world_of self.now).request }
+    {
+        self.request
+    }
+
+    /// The ports of the request.
+    pub fn ports(&self) -> &'a Ports
+        ensures { result.now ≡ (world_of self.now).ports }
+    {
+        self.ports
+    }
+
+    /// The frame of the request to which the next ad is docked.
+    pub fn next_place(&self) -> AdPlace
+        ensures { result ≡ next_side (world_of self.now) }
+    {
+        AdPlace {
+            ad: 0,
+            frame: self.port_frame(self.docked as u32 + 1),
+        }
     }
 
     /// The frame of the request to which the last ad is docked.
@@ -120,7 +145,18 @@ impl<'a> World<'a> {
         ensures counted { entry.new ≡ entry.old + 1 }
     {
         entry.tick();
-        self.ad(pos.ad).unwrap().expr(pos.frame, pos.attr)
+        self.expr(pos)
+    }
+
+    /// The literal that an attribute's expression is, `None` where it is anything else. It counts nothing.
+    pub fn literal_at(&self, pos: Pos) -> Option<&'a Lit>
+        requires { IsSome (expr_of (world_of self.now) pos) }
+        ensures { option_copied result ≡ literal_of (expr_of (world_of self.now) pos) }
+    {
+        match self.expr(pos) {
+            Expr::Literal(lit) => Some(lit),
+            _ => None,
+        }
     }
 
     /// The attribute of this name in the frame, found with no memory taken. `None` exactly where the frame has no such
@@ -134,6 +170,40 @@ impl<'a> World<'a> {
             return None;
         }
         let attr = ad.position(at.frame, name)?;
+        Some(Pos {
+            ad: at.ad,
+            frame: at.frame,
+            attr,
+        })
+    }
+
+    /// The requirement of the frame: its attribute `Requirements`, or `Constraint` where it has none.
+    pub fn requirement(&self, at: AdPlace) -> Option<Pos>
+        ensures found { result ≡ requirement_at (world_of self.now) at }
+        ensures there { IfSome result (λ pos. IsSome (expr_of (world_of self.now) pos)) }
+    {
+        let ad = self.ad(at.ad)?;
+        if at.frame >= ad.frames() {
+            return None;
+        }
+        let attr = ad.requirement(at.frame)?;
+        Some(Pos {
+            ad: at.ad,
+            frame: at.frame,
+            attr,
+        })
+    }
+
+    /// The rank of the frame: its attribute `Rank`.
+    pub fn rank(&self, at: AdPlace) -> Option<Pos>
+        ensures found { result ≡ rank_at (world_of self.now) at }
+        ensures there { IfSome result (λ pos. IsSome (expr_of (world_of self.now) pos)) }
+    {
+        let ad = self.ad(at.ad)?;
+        if at.frame >= ad.frames() {
+            return None;
+        }
+        let attr = ad.rank(at.frame)?;
         Some(Pos {
             ad: at.ad,
             frame: at.frame,
@@ -181,6 +251,14 @@ impl<'a> World<'a> {
         ensures { option_map (λ p. same_name name.now p.label) (slice_get (world_of self.now).ports port) ≡ Some result }
     {
         same_folded(name, self.ports.at(port).label.bytes())
+    }
+
+    // The expression of an attribute that is there.
+    fn expr(&self, pos: Pos) -> &'a Expr
+        requires { IsSome (expr_of (world_of self.now) pos) }
+        ensures { expr_of (world_of self.now) pos ≡ Some (tree result.now) }
+    {
+        self.ad(pos.ad).unwrap().expr(pos.frame, pos.attr)
     }
 
     // The ad with this number.

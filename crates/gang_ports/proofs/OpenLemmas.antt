@@ -1,16 +1,20 @@
 -- What tests leave open of the docks of ports with their resources.
-use Rattle.std.proofs.Common.{◌≡◌, ◌<◌, ℕ, suc, List, length, get_or, Some, All, ap, sym, ◌∙◌, subst, arith}
+use Rattle.std.proofs.Common.{◌≡◌, ◌<◌, ℕ, suc, Bool, true, List, length, get_or, None, Some, All, if◌then◌else◌, ap, sym, ◌∙◌, subst, arith}
 use Rattle.ad_tree.specs.Ad.{ad_frames}
 use Rattle.ad_tree.specs.Frames.{Frame}
 use Rattle.ad_tree.specs.declared.request.Port.{Port}
+use Rattle.conjunct_plan.specs.declared.test.Test.{Test}
 use Rattle.conjunct_plan.specs.Tests.{labels_of}
-use Rattle.eval_scope.specs.World.{PlainWorld, port_frame, with_docked}
+use Rattle.ad_eval.specs.Dock.{rank_by}
+use Rattle.eval_scope.specs.World.{PlainWorld, port_frame, request_side, with_docked}
 use Rattle.dock_match.specs.Docks.{last_ad, last_open}
+use Rattle.dock_match.specs.Late.{is_ruled_out, late_tests}
 use Rattle.dock_match.specs.Sides.{open_sides}
 use Rattle.dock_match.proofs.DockingLemmas.{last-docked}
+use Rattle.dock_match.proofs.LateLemmas.{ruled-undocked}
 use Rattle.gang_ports.specs.declared.weighing.Resource.{Resource}
 use Rattle.gang_ports.specs.declared.weighing.Side.{Side}
-use Rattle.gang_ports.specs.Search.{HasSides, HasSidesIn, HaveSides}
+use Rattle.gang_ports.specs.Search.{HasSides, HasSidesIn, HaveSides, worth}
 use Rattle.gang_ports.proofs.ListLemmas.{length-more}
 use Rattle.gang_ports.proofs.SearchLemmas.{first-cut, first-whole}
 use Rattle.gang_ports.proofs.TurnLemmas.{Begun, Weighed, first, others, whole}
@@ -47,6 +51,13 @@ module _ (w deeper : PlainWorld) where
       (length-more w.docked (ad_frames r.ad.now))
       ∙ ap (open_sides w.request (port_frame w.ports (suc (length w.docked))) (labels_of w.ports)) (last-docked w (ad_frames r.ad.now))
       ∙ has
+
+-- a resource that tests by what is docked rule out is worth nothing
+pub ruled-worthless : (w : PlainWorld) (late : List Test) (ad : List Frame) → late ≡ late_tests w → is_ruled_out late ad ≡ true
+    → worth (with_docked w ad) ≡ None
+ruled-worthless w late ad are ruled =
+    ap (λ (b : Bool). if b then Some (rank_by (with_docked w ad) (request_side (with_docked w ad))) else None)
+    (ruled-undocked w ad (ap (λ (tests : List Test). is_ruled_out tests ad) (sym are) ∙ ruled))
 
 -- ---- the sides of a search
 

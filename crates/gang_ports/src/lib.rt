@@ -5,6 +5,7 @@ mod free_ports;
 mod gangs;
 mod laws;
 mod ports;
+mod prefix;
 mod reading;
 mod scene;
 mod searching;

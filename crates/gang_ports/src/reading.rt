@@ -3,6 +3,7 @@ ghost use Rattle.std.specs.Prelude.{◌≡◌, ◌≤◌, ◌<◌, ◌+◌, ◌&
 ghost use Rattle.std.specs.Prelude.{if◌then◌else◌};
 ghost use Rattle.std.specs.List.{cons_option};
 ghost use Rattle.ad_tree.specs.Ad.{ad_frames};
+ghost use Rattle.conjunct_plan.specs.Planned.{IsPlanOf};
 ghost use Rattle.conjunct_plan.specs.Tests.{labels_of, tests_of};
 ghost use Rattle.literal_index.specs.Shown.{IsIndex};
 ghost use Rattle.ad_candidates.specs.Counts.{least_left};
@@ -17,7 +18,8 @@ use crate::weighing::{Kept, Resource, Side};
 use ad_candidates::candidates_at;
 use ad_store::Holdings;
 use ad_tree::{Ad, Request};
-use dock_match::open_sides;
+use conjunct_plan::SidePlan;
+use dock_match::open_sides_by_plan;
 use pool_steps::Steps;
 use pool_text::OutOfMemory;
 use std::convert::AsSlice;
@@ -70,9 +72,10 @@ fn read_resources<'a, H: Holdings, T: Ledger>(
         + least_left (stock_in scene.now).ads (tests_of (ad_frames request.now.ad) frame (labels_of request.now.ports)) }
 {
     let places = candidates_at(scene.alloc, scene.store, scene.index, request, frame)?;
+    let plan = SidePlan::of(scene.alloc, &request.ad, frame, &request.ports)?;
     let mut resources = Vec::new(scene.alloc);
     for place in places.as_slice() {
-        let found = resource_at(scene, request, frame, *place, touch);
+        let found = resource_at(scene, request, frame, &plan, *place, touch);
         keep(&mut resources, found)?;
     }
     Ok(resources)
@@ -83,11 +86,13 @@ fn resource_at<'a, H: Holdings, T: Ledger>(
     scene: &Scene<'a, H>,
     request: &Request,
     frame: u32,
+    plan: &SidePlan<'_>,
     place: usize,
     touch: &mut Steps<T>,
 ) -> Option<Resource<'a>>
     requires place { place < length (stock_in scene.now).slots }
     requires frame { frame < length (ad_frames request.now.ad) }
+    requires planned { IsPlanOf plan.now (ad_frames request.now.ad) frame (labels_of request.now.ports) }
     ensures found { option_map (λ r. r.place) result ≡ (if is_free (pool_in H.is_offered H.holding scene.now) place
         && is_open (pool_in H.is_offered H.holding scene.now) (ad_frames request.now.ad) request.now.ports frame place
         then Some place else None) }
@@ -101,7 +106,7 @@ fn resource_at<'a, H: Holdings, T: Ledger>(
         return None;
     }
     let ad = scene.store.look(slot, touch);
-    let Some(sides) = open_sides(scene.alloc, request, frame, ad) else {
+    let Some(sides) = open_sides_by_plan(scene.alloc, request, frame, plan, ad) else {
         return None;
     };
     Some(Resource {

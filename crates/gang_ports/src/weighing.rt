@@ -5,17 +5,19 @@ ghost use Rattle.std.specs.List.Sorted.{IsPermutation, IsSorted};
 ghost use Rattle.ad_tree.specs.Ad.{ad_frames};
 ghost use Rattle.ad_tree.specs.Small.{IsSmall};
 ghost use Rattle.eval_scope.specs.Shown.{world_of};
-ghost use Rattle.eval_scope.specs.World.{attribute_count};
+ghost use Rattle.eval_scope.specs.World.{attribute_count, with_docked};
 ghost use Rattle.ad_eval.specs.Small.{AreSmall};
 ghost use Rattle.dock_match.specs.Docks.{last_open};
 ghost use Rattle.gang_ports.specs.Choice.{is_among};
+ghost use Rattle.gang_ports.specs.Scenes.{world_behind};
 ghost use Rattle.gang_ports.specs.Search.{HasSidesIn, attributes_of, candidate_in, candidate_order, evaluations_in, forgotten, is_spent, is_undocked};
 ghost use Rattle.gang_ports.specs.Search.{remembered, weighed_in, worth};
 ghost use Rattle.gang_ports.specs.Small.{AreSmallResources};
 
+use crate::prefix::Prefix;
 use ad_eval::rank;
 use ad_tree::Ad;
-use dock_match::OpenSides;
+use dock_match::{OpenSides, is_ruled_out, late_tests};
 use eval_scope::World;
 use pool_steps::Steps;
 use pool_text::OutOfMemory;
@@ -78,9 +80,15 @@ pub fn candidates<'a, F: Ledger, E: Ledger>(
     ensures entries { entry.new ≤ entry.old + sum_by (attributes_of (world_of world.now) before.now) (remembered side.old.is_free side.old.resources.items) }
     ensures ratio { AreSmall (world_of world.now) → AreSmallResources side.old.resources.items → entry.new + 9216 * tops.old ≤ entry.old + 9216 * tops.new }
 {
+    let late = late_tests(alloc, world)?;
+    let prefix = Prefix {
+        world,
+        before,
+        late,
+    };
     let resources = side.resources.as_mut_slice();
     remember(side.is_free, resources);
-    let mut tries = weigh_all(alloc, world, before, resources, tops, entry)?;
+    let mut tries = weigh_all(alloc, &prefix, resources, tops, entry)?;
     arrange(&mut tries);
     Ok(tries)
 }
@@ -136,23 +144,22 @@ fn arrange(tries: &mut Vec<Candidate<'_>>)
 // The resources that dock, one after another. Those of which nothing is known are weighed, and what they are worth is kept.
 fn weigh_all<'a, F: Ledger, E: Ledger>(
     alloc: Global,
-    world: &World<'a>,
-    before: &[usize],
+    prefix: &Prefix<'_, 'a>,
     resources: &mut [Resource<'a>],
     tops: &mut Steps<F>,
     entry: &mut Steps<E>,
 ) -> Result<Vec<Candidate<'a>>, OutOfMemory>
-    requires room { length (world_of world.now).docked < 8 }
-    requires tests { All (HasSidesIn (world_of world.now)) resources.old }
-    ensures tries { IfOk result (λ tries. tries.items ≡ filter_map (candidate_in (world_of world.now) before.now) resources.old) }
-    ensures kept { OnOk result (resources.new ≡ map (weighed_in (world_of world.now) before.now) resources.old) }
-    ensures evaluations { tops.new ≤ tops.old + sum_by (evaluations_in before.now) resources.old }
-    ensures entries { entry.new ≤ entry.old + sum_by (attributes_of (world_of world.now) before.now) resources.old }
-    ensures ratio { AreSmall (world_of world.now) → AreSmallResources resources.old → entry.new + 9216 * tops.old ≤ entry.old + 9216 * tops.new }
+    requires room { length (world_behind prefix.now).docked < 8 }
+    requires tests { All (HasSidesIn (world_behind prefix.now)) resources.old }
+    ensures tries { IfOk result (λ tries. tries.items ≡ filter_map (candidate_in (world_behind prefix.now) prefix.now.before.now) resources.old) }
+    ensures kept { OnOk result (resources.new ≡ map (weighed_in (world_behind prefix.now) prefix.now.before.now) resources.old) }
+    ensures evaluations { tops.new ≤ tops.old + sum_by (evaluations_in prefix.now.before.now) resources.old }
+    ensures entries { entry.new ≤ entry.old + sum_by (attributes_of (world_behind prefix.now) prefix.now.before.now) resources.old }
+    ensures ratio { AreSmall (world_behind prefix.now) → AreSmallResources resources.old → entry.new + 9216 * tops.old ≤ entry.old + 9216 * tops.new }
 {
     let mut tries = Vec::new(alloc);
     for resource in resources.iter_mut() {
-        let found = weigh(alloc, world, before, resource, tops, entry)?;
+        let found = weigh(alloc, prefix, resource, tops, entry)?;
         keep(&mut tries, found)?;
     }
     Ok(tries)
@@ -161,31 +168,51 @@ fn weigh_all<'a, F: Ledger, E: Ledger>(
 // The candidate that a resource is, if it docks. One that is docked already isn't weighed, and no other is weighed again.
 fn weigh<'a, F: Ledger, E: Ledger>(
     alloc: Global,
-    world: &World<'a>,
-    before: &[usize],
+    prefix: &Prefix<'_, 'a>,
     resource: &mut Resource<'a>,
     tops: &mut Steps<F>,
     entry: &mut Steps<E>,
 ) -> Result<Option<Candidate<'a>>, OutOfMemory>
-    requires room { length (world_of world.now).docked < 8 }
-    requires tests { HasSidesIn (world_of world.now) resource.old }
-    ensures found { IfOk result (λ found. found ≡ candidate_in (world_of world.now) before.now resource.old) }
-    ensures kept { OnOk result (resource.new ≡ weighed_in (world_of world.now) before.now resource.old) }
-    ensures evaluations { tops.new ≤ tops.old + evaluations_in before.now resource.old }
-    ensures entries { entry.new ≤ entry.old + attributes_of (world_of world.now) before.now resource.old }
-    ensures ratio { AreSmall (world_of world.now) → IsSmall (ad_frames resource.old.ad.now) → entry.new + 9216 * tops.old ≤ entry.old + 9216 * tops.new }
+    requires room { length (world_behind prefix.now).docked < 8 }
+    requires tests { HasSidesIn (world_behind prefix.now) resource.old }
+    ensures found { IfOk result (λ found. found ≡ candidate_in (world_behind prefix.now) prefix.now.before.now resource.old) }
+    ensures kept { OnOk result (resource.new ≡ weighed_in (world_behind prefix.now) prefix.now.before.now resource.old) }
+    ensures evaluations { tops.new ≤ tops.old + evaluations_in prefix.now.before.now resource.old }
+    ensures entries { entry.new ≤ entry.old + attributes_of (world_behind prefix.now) prefix.now.before.now resource.old }
+    ensures ratio { AreSmall (world_behind prefix.now) → IsSmall (ad_frames resource.old.ad.now) → entry.new + 9216 * tops.old ≤ entry.old + 9216 * tops.new }
 {
-    if is_among(before, resource.place) {
+    if is_among(prefix.before, resource.place) {
         return Ok(None);
     }
     let rank = match resource.kept {
         Kept::Weighed(rank) => rank,
-        Kept::Unknown => {
-            rank_where_docked(alloc, &world.with(resource.ad), resource.sides, tops, entry)?
-        }
+        Kept::Unknown => rank_behind(alloc, prefix, resource, tops, entry)?,
     };
     resource.kept = Kept::Weighed(rank);
     Ok(ranked(resource, rank))
+}
+
+// The rank that the port gives a resource that isn't docked yet, where the dock is true. Nothing is evaluated where a test by
+// what is docked decides against it.
+fn rank_behind<'a, F: Ledger, E: Ledger>(
+    alloc: Global,
+    prefix: &Prefix<'_, 'a>,
+    resource: &Resource<'a>,
+    tops: &mut Steps<F>,
+    entry: &mut Steps<E>,
+) -> Result<Option<i128>, OutOfMemory>
+    requires room { length (world_behind prefix.now).docked < 8 }
+    requires tests { HasSidesIn (world_behind prefix.now) resource.now }
+    ensures rank { IfOk result (λ rank. rank ≡ worth (with_docked (world_behind prefix.now) (ad_frames resource.now.ad.now))) }
+    ensures evaluations { tops.new ≤ tops.old + 3 }
+    ensures entries { entry.new ≤ entry.old + 3 * attribute_count (with_docked (world_behind prefix.now) (ad_frames resource.now.ad.now)) }
+    ensures ratio { AreSmall (world_behind prefix.now) → IsSmall (ad_frames resource.now.ad.now) → entry.new + 9216 * tops.old ≤ entry.old + 9216 * tops.new }
+{
+    if is_ruled_out(&prefix.late, resource.ad) {
+        return Ok(None);
+    }
+    let world = prefix.world.with(resource.ad);
+    rank_where_docked(alloc, &world, resource.sides, tops, entry)
 }
 
 // The candidate that a resource is at a rank, if it has one.

@@ -16,6 +16,14 @@ use pool_text::{OutOfMemory, Text};
 use std::alloc::Global;
 use std::collections::BTreeMap;
 
+// An attribute of the root of an ad: its number there, its name and its expression.
+#[derive(Clone, Copy)]
+struct Attribute<'a> {
+    number: u32,
+    name: &'a Text,
+    expr: &'a Expr,
+}
+
 /// Puts in the attributes of the root of the ad under a slot. At want of memory it takes out again what it put in.
 pub fn put_attributes(
     alloc: Global,
@@ -30,15 +38,12 @@ pub fn put_attributes(
         → get place_order entries.old q ≡ None) → IsSame entries.old entries.new) }
 {
     for attr in 0..ad.count(0) {
-        if let Err(refused) = put_attribute(
-            alloc,
-            names,
-            entries,
-            slot,
-            attr,
-            ad.name(0, attr),
-            ad.expr(0, attr),
-        ) {
+        let attribute = Attribute {
+            number: attr,
+            name: ad.name(0, attr),
+            expr: ad.expr(0, attr),
+        };
+        if let Err(refused) = put_attribute(alloc, names, entries, slot, &attribute) {
             take_attributes(entries, slot, ad, attr);
             return Err(refused);
         }
@@ -51,15 +56,13 @@ fn put_attribute(
     names: &mut NameCache,
     entries: &mut BTreeMap<Place, Entry>,
     slot: usize,
-    attr: u32,
-    name: &Text,
-    expr: &Expr,
+    attribute: &Attribute<'_>,
 ) -> Result<(), OutOfMemory>
-    ensures ok { OnOk result (HasPutOne slot attr (name.now, tree expr.now) entries.old entries.new) }
+    ensures ok { OnOk result (HasPutOne slot attribute.now.number (attribute.now.name.now, tree attribute.now.expr.now) entries.old entries.new) }
     ensures err { OnErr result (IsSame entries.old entries.new) }
 {
-    let place = place_of(slot, attr, name, expr);
-    let entry = Entry::of(alloc, names, place.name, name, expr)?;
+    let place = place_of(slot, attribute.number, attribute.name, attribute.expr);
+    let entry = Entry::of(alloc, names, place.name, attribute.name, attribute.expr)?;
     entries.insert(place, entry)?;
     Ok(())
 }
@@ -70,18 +73,17 @@ pub fn take_attributes(entries: &mut BTreeMap<Place, Entry>, slot: usize, ad: &A
     ensures { HasTaken count slot (attributes_at (ad_frames ad.now) 0) entries.old entries.new }
 {
     for attr in 0..count {
-        take_attribute(entries, slot, attr, ad.name(0, attr), ad.expr(0, attr));
+        let attribute = Attribute {
+            number: attr,
+            name: ad.name(0, attr),
+            expr: ad.expr(0, attr),
+        };
+        take_attribute(entries, slot, &attribute);
     }
 }
 
-fn take_attribute(
-    entries: &mut BTreeMap<Place, Entry>,
-    slot: usize,
-    attr: u32,
-    name: &Text,
-    expr: &Expr,
-)
-    ensures { HasTakenOne slot attr (name.now, tree expr.now) entries.old entries.new }
+fn take_attribute(entries: &mut BTreeMap<Place, Entry>, slot: usize, attribute: &Attribute<'_>)
+    ensures { HasTakenOne slot attribute.now.number (attribute.now.name.now, tree attribute.now.expr.now) entries.old entries.new }
 {
-    entries.remove(&place_of(slot, attr, name, expr));
+    entries.remove(&place_of(slot, attribute.number, attribute.name, attribute.expr));
 }

@@ -22,3 +22,4 @@ pub mod SlotLemmas
 mod SmallLemmas
 mod SpinRowLemmas
 pub mod StepLemmas
+pub mod WantingLemmas

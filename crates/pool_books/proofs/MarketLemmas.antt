@@ -1,5 +1,6 @@
 -- The market of a table of jobs, over slots, and the market of a state, over names: they find the same, so the cycle is the same.
 use Rattle.std.proofs.Common.{◌≡◌, ℕ, All, Bool, false, true, cond, List, [], ◌∷◌, ◌++◌, count_by, filter, length, map, max, sum_by, refl, sym, ◌∙◌, ap, arith}
+use Rattle.std.proofs.Common.{Result, Ok, Err, OnErr}
 use Rattle.std.proofs.lemmas.List.{map-append}
 use Rattle.std.proofs.lemmas.List.Elements.{All-head, All-nil, All-push, All-tail}
 use Rattle.std.proofs.lemmas.List.Sums.{sum_by-cons}
@@ -27,6 +28,7 @@ use Rattle.pool_books.specs.Ports.{HasOwnPorts, ports_in}
 use Rattle.pool_books.specs.Rows as rows
 use Rattle.pool_books.specs.State.{QueuedJob, State}
 use Rattle.pool_books.specs.Stored.{are_stored}
+use Rattle.pool_books.specs.Wanting.{IsPartOffered}
 use Rattle.pool_books.proofs.FoundLemmas.{find-seen}
 use Rattle.pool_books.proofs.MatchedLemmas.{AreOffered, IsOffered, IsOwned, kept-offers, offers-seen, stored-offers}
 use Rattle.pool_books.proofs.NameLemmas.{AreBeside}
@@ -122,6 +124,17 @@ module _ (stock : Stock) (beside : AreBeside stock.ads stock.slots) (moment : �
     where
       pair : List QueuedJob → List SpinRow → State × Reply
       pair js rs = (state_of js, reply.Cycle rs)
+
+  -- where memory was wanting, the first offers stand
+  pub part-seen : {T E : Type 0} (r : Result T E) (later : List Job) → OnErr r (market.IsPart (offers_of (cycle_of here)) jobs later)
+      → OnErr r (IsPartOffered state (map (queued stock) later))
+  part-seen (Ok x) later part = tt
+  part-seen (Err e) later part = record {
+    front = map (named stock) part.front;
+    rest = map (named stock) part.rest;
+    all = ap offers_of cycle-seen ∙ spins-named stock (cycle_of here) ∙ ap (map (named stock)) part.all ∙ map-append (named stock) part.front part.rest;
+    made = ap (map (queued stock)) part.made ∙ sym (offers-seen stock part.front jobs);
+  }
 
   -- ---- what it costs
 

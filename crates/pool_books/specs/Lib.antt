@@ -1,3 +1,4 @@
+pub mod Adverts
 pub mod Apart
 pub mod Books
 pub mod ClaimAnswers
@@ -11,3 +12,4 @@ pub mod Rows
 pub mod State
 pub mod Stocks
 pub mod Stored
+pub mod Wanting

@@ -1,6 +1,7 @@
 // The ads and the jobs of a pool, which change together.
 ghost use Rattle.std.specs.Prelude.{◌≡◌, ◌≢◌, ◌+◌, ◌-◌, ◌≤◌, ◌<◌, ◌++◌, ◌∷◌, [], All, true, false, not, length, bytes_eq, Contains, IfErr, IfOk, IsTrue, None};
 ghost use Rattle.std.specs.Prelude.{OnErr, OnOk, Some, ◌*◌, ℕ, List, map};
+ghost use Rattle.pool_steps.specs.Spent.{IsPaid, IsSame};
 ghost use Rattle.ad_store.specs.Answers.{is_added};
 ghost use Rattle.ad_store.specs.Stock.{expired_slots, first_expired, has, lack, placed, slots_without, without};
 ghost use Rattle.ad_store.specs.Store.{stock_of};
@@ -20,13 +21,14 @@ ghost use Rattle.pool_books.specs.Queue.{claim_names, has_job, job_refusal, name
 ghost use Rattle.pool_books.specs.State.{idle};
 ghost use Rattle.pool_books.specs.Stored.{are_stored};
 
+use crate::Advertised;
 use crate::indexed::IndexedStore;
 use ad_store::{Put, PutFault};
-use ad_tree::{Ad, Request};
+use ad_tree::Request;
 use claim_table::{ClaimFault, ClaimTable, FreedList, JobFault};
 use negotiator::{Cycle, Priorities, cycle};
 use pool_replies::Reply;
-use pool_steps::Steps;
+use pool_steps::{Meter, Steps};
 use pool_text::{OutOfMemory, Slots};
 use std::alloc::Global;
 use std::convert::AsSlice;
@@ -45,6 +47,7 @@ pub struct Books {
 
 impl Books {
     ghost use Rattle.ad_store.specs.Stock.{Advert};
+    ghost use Rattle.pool_books.specs.Adverts.{advert_of};
     ghost use Rattle.pool_books.specs.Apart.{AreExclusive};
     ghost use Rattle.pool_books.specs.Books.{queue_of};
     ghost use Rattle.pool_books.specs.ClaimAnswers.{IsClaimAnswer, IsReleaseAnswer};
@@ -53,6 +56,7 @@ impl Books {
     ghost use Rattle.pool_books.specs.Books.{state_with};
     ghost use Rattle.pool_books.specs.Rows.{IsSpinHeld, spin_row};
     ghost use Rattle.pool_books.specs.State.{QueuedJob};
+    ghost use Rattle.pool_books.specs.Wanting.{IsNotPut, IsPartOffered};
 
     pub fn new(alloc: Global) -> Books
         ensures ads { ads_of result.ads ≡ [] }
@@ -76,36 +80,40 @@ impl Books {
         self.ads.store.slots_are_apart();
     }
 
-    /// Puts an ad under a name, as the store does, and counts at most two in `touch`. The jobs stay as they are, unless
-    /// memory was wanting: then an ad may be gone, and all jobs with it.
+    /// Puts an ad under a name, as the store does, and counts at most two in `touch`. Where it isn't put, nothing changes,
+    /// unless memory was wanting: then the ad of the name may have left, and what a job had of it has ended, or no job is left.
     pub fn put<T: Ledger>(
         &mut self,
         alloc: Global,
-        name: &[u8],
-        born: u64,
-        lifetime: u64,
-        text_len: u64,
-        ad: Ad,
+        advertised: Advertised<'_>,
         touch: &mut Steps<T>,
     ) -> Result<Put, PutFault>
-        requires small { IsSmall (ad_frames ad) }
-        ensures ads { OnOk result (ads_of self.new.ads
-            ≡ placed (record { name = name.now; born = born; lifetime = lifetime; size = text_len; ad = ad_frames ad }) (ads_of self.old.ads)) }
+        requires small { IsSmall (ad_frames advertised.ad) }
+        ensures ads { OnOk result (ads_of self.new.ads ≡ placed (advert_of advertised.entry) (ads_of self.old.ads)) }
         ensures jobs { OnOk result (queue_of self.new ≡ queue_of self.old) }
-        ensures added { IfOk result (λ put. is_added put ≡ not (has name.now (ads_of self.old.ads))) }
-        ensures room { OnOk result (lack name.now text_len (ads_of self.old.ads) ≡ None) }
+        ensures added { IfOk result (λ put. is_added put ≡ not (has advertised.entry.name.now (ads_of self.old.ads))) }
+        ensures room { OnOk result (lack advertised.entry.name.now advertised.entry.text_len (ads_of self.old.ads) ≡ None) }
         ensures cause { IfErr result (λ fault. fault ≢ PutFault.OutOfMemory
-            → (lack name.now text_len (ads_of self.old.ads) ≡ Some fault)
+            → (lack advertised.entry.name.now advertised.entry.text_len (ads_of self.old.ads) ≡ Some fault)
             × (ads_of self.new.ads ≡ ads_of self.old.ads) × (queue_of self.new ≡ queue_of self.old)) }
+        ensures memory { OnErr result (IsNotPut advertised.entry.name.now (ads_of self.old.ads) (queue_of self.old)
+            (ads_of self.new.ads) (queue_of self.new)) }
         ensures looks { touch.new ≤ touch.old + 2 }
     {
-        match self.ads.put(name, born, lifetime, text_len, ad, touch) {
+        self.ads.store.names_are_apart();
+        self.ads.store.slots_are_apart();
+        self.claims.resources_are_apart();
+        match self.ads.put(advertised, touch) {
             Ok(put) => Ok(put),
-            Err(PutFault::Full) => Err(PutFault::Full),
-            Err(PutFault::FullText) => Err(PutFault::FullText),
-            Err(PutFault::OutOfMemory) => {
-                self.claims = ClaimTable::new(alloc);
-                Err(PutFault::OutOfMemory)
+            Err(end) => {
+                let Some(slot) = end.gone else {
+                    return Err(end.fault);
+                };
+                // Where there is no memory to tell who loses the ad, no job is kept.
+                if self.claims.lose(slot).is_err() {
+                    self.claims = ClaimTable::new(alloc);
+                }
+                Err(end.fault)
             }
         }
     }
@@ -126,6 +134,8 @@ impl Books {
         ensures none { IfOk result (λ held. held ≡ false → queue_of self.new ≡ queue_of self.old) }
         ensures looks { touch.new ≤ touch.old + 1 }
         ensures err { OnErr result (touch.new ≡ touch.old) }
+        ensures ads_kept { OnErr result (self.new.ads ≡ self.old.ads) }
+        ensures jobs_kept { OnErr result (queue_of self.new ≡ queue_of self.old) }
     {
         self.ads.store.names_are_apart();
         self.ads.store.slots_are_apart();
@@ -139,13 +149,17 @@ impl Books {
     }
 
     /// The ads that are no longer live leave one after another; they are found in one pass. Answers how many they were, and counts
-    /// one at most in `touch` for each.
+    /// one at most in `touch` for each. Where memory is wanting, only some of them may have left: a further call then makes of the
+    /// ads and the jobs what this one was to make.
     pub fn expire<T: Ledger>(&mut self, now: u64, touch: &mut Steps<T>) -> Result<u64, OutOfMemory>
         ensures ads { OnOk result (ads_of self.new.ads ≡ live_ads now (ads_of self.old.ads)) }
         ensures jobs { OnOk result (queue_of self.new
             ≡ without_resources (has_expired now (ads_of self.old.ads)) (queue_of self.old)) }
         ensures count { IfOk result (λ n. n ≡ length (ads_of self.old.ads) - length (live_ads now (ads_of self.old.ads))) }
         ensures looks { touch.new ≤ touch.old + (length (ads_of self.old.ads) - length (live_ads now (ads_of self.old.ads))) }
+        ensures ads_left { OnErr result (live_ads now (ads_of self.new.ads) ≡ live_ads now (ads_of self.old.ads)) }
+        ensures jobs_left { OnErr result (without_resources (has_expired now (ads_of self.new.ads)) (queue_of self.new)
+            ≡ without_resources (has_expired now (ads_of self.old.ads)) (queue_of self.old)) }
     {
         let before = self.ads.store.len();
         let expired = self.ads.store.expired(now)?;
@@ -156,7 +170,7 @@ impl Books {
         Ok((before - self.ads.store.len()) as u64)
     }
 
-    // Takes out the first ad that is no longer live.
+    // Takes out the first ad that is no longer live. Where memory is wanting nothing changes.
     fn take_out<T: Ledger>(
         &mut self,
         now: u64,
@@ -173,6 +187,8 @@ impl Books {
             ≡ slot ∷ expired_slots now (stock_of self.new.ads.store)) }
         ensures looks { OnOk result (touch.new ≤ touch.old + 1) }
         ensures none { OnErr result (touch.new ≡ touch.old) }
+        ensures ads_kept { OnErr result (self.new.ads ≡ self.old.ads) }
+        ensures jobs_kept { OnErr result (queue_of self.new ≡ queue_of self.old) }
     {
         self.ads.store.names_are_apart();
         let name = self.ads.store.name(slot).copy()?;
@@ -194,6 +210,7 @@ impl Books {
         ensures jobs { OnOk result (queue_of self.new ≡ queue_of self.old
             ++ (record { name = name.now; user = user.now; size = text_len; ad = ad_frames request.ad; standing = idle }) ∷ []) }
         ensures ads { self.new.ads ≡ self.old.ads }
+        ensures jobs_kept { OnErr result (queue_of self.new ≡ queue_of self.old) }
     {
         if self.claims.submit(name, user, request, text_len).is_err() {
             return Err(OutOfMemory);
@@ -230,24 +247,25 @@ impl Books {
         self.ads.settle()
     }
 
-    /// Goes through a cycle of negotiation, which offers resources to idle jobs.
+    /// Goes through a cycle of negotiation, which offers resources to idle jobs. Where memory is wanting, the first offers of
+    /// the cycle stand.
     pub fn negotiate<F: Ledger, E: Ledger, T: Ledger>(
         &mut self,
         alloc: Global,
         priorities: &Priorities,
         moment: u64,
-        tops: &mut Steps<F>,
-        entry: &mut Steps<E>,
-        touch: &mut Steps<T>,
+        meter: &mut Meter<'_, F, E, T>,
     ) -> Result<Cycle, OutOfMemory>
         requires { IsIndex self.old.ads.index (rows_of (stock_of self.old.ads.store)) }
         ensures ads { self.new.ads ≡ self.old.ads }
         ensures cycle { IfOk result (λ spins. (rows : List SpinRow) → rows ≡ map (spin_row (stock_of self.old.ads.store)) spins
             → steps.negotiate (state_with moment (settings_of priorities.now) self.old) ≡ (state_with moment (settings_of priorities.now) self.new, Reply.Cycle rows)) }
         ensures held { IfOk result (All (IsSpinHeld (stock_of self.old.ads.store).slots)) }
-        ensures cost { tops.new ≤ tops.old + 5 * steps.undecided_for_jobs (state_with moment (settings_of priorities.now) self.old) }
-        ensures ratio { entry.new + 9216 * tops.old ≤ entry.old + 9216 * tops.new }
-        ensures looks { touch.new ≤ touch.old + steps.looks_for_jobs (state_with moment (settings_of priorities.now) self.old) }
+        ensures part { OnErr result (IsPartOffered (state_with moment (settings_of priorities.now) self.old) (queue_of self.new)) }
+        ensures cost { meter.new.tops.now ≤ meter.old.tops.now + 5 * steps.undecided_for_jobs (state_with moment (settings_of priorities.now) self.old) }
+        ensures same { IsSame meter.old meter.new }
+        ensures ratio { IsPaid meter.old meter.new }
+        ensures looks { meter.new.touch.now ≤ meter.old.touch.now + steps.looks_for_jobs (state_with moment (settings_of priorities.now) self.old) }
     {
         self.ads.store.names_are_apart();
         self.ads.store.slots_are_apart();
@@ -260,9 +278,9 @@ impl Books {
             &mut self.claims,
             priorities,
             moment,
-            tops,
-            entry,
-            touch,
+            meter.tops,
+            meter.entry,
+            meter.touch,
         )
     }
 
@@ -273,24 +291,32 @@ impl Books {
         priorities: &Priorities,
         name: &[u8],
         moment: u64,
-        tops: &mut Steps<F>,
-        entry: &mut Steps<E>,
-        touch: &mut Steps<T>,
+        meter: &mut Meter<'_, F, E, T>,
     ) -> Result<FreedList, ClaimFault>
         ensures ads { self.new.ads ≡ self.old.ads }
         ensures claim { IsClaimAnswer (stock_of self.old.ads.store) (state_with moment (settings_of priorities.now) self.old) name.now
             (state_with moment (settings_of priorities.now) self.new) result }
-        ensures cost { (settings : List Setting) → tops.new ≤ tops.old + 4 * undecided_for_claim (state_with moment settings self.old) name.now }
-        ensures ratio { entry.new + 9216 * tops.old ≤ entry.old + 9216 * tops.new }
-        ensures looks { (settings : List Setting) → touch.new ≤ touch.old + 9 * offered_for_claim (state_with moment settings self.old) name.now }
+        ensures cost { (settings : List Setting)
+            → meter.new.tops.now ≤ meter.old.tops.now + 4 * undecided_for_claim (state_with moment settings self.old) name.now }
+        ensures same { IsSame meter.old meter.new }
+        ensures ratio { IsPaid meter.old meter.new }
+        ensures looks { (settings : List Setting)
+            → meter.new.touch.now ≤ meter.old.touch.now + 9 * offered_for_claim (state_with moment settings self.old) name.now }
     {
         self.ads.store.names_are_apart();
         self.ads.store.slots_are_apart();
         self.claims.names_are_apart();
         self.claims.resources_are_apart();
         let ads = &self.ads;
-        self.claims
-            .claim(&ads.store, priorities, name, moment, tops, entry, touch)
+        self.claims.claim(
+            &ads.store,
+            priorities,
+            name,
+            moment,
+            meter.tops,
+            meter.entry,
+            meter.touch,
+        )
     }
 
     /// Makes the job of a name idle, and hands back what was offered to it or claimed by it.

@@ -16,12 +16,20 @@ use ad_parser::parse_ad;
 use ad_printer::print_ad;
 use ad_store::{Put, PutFault, Store};
 use claim_table::ClaimTable;
-use pool_books::Books;
+use pool_books::{Advertised, Books};
 use pool_replies::{AdRow, AdRows, Refusal, Reply, Room};
 use pool_steps::Steps;
 use pool_text::{OutOfMemory, Text};
 use std::alloc::Global;
 use std::sync::ledger::Ledger;
+
+/// What is advertised: the text of an ad, under a name, for a lifetime.
+#[derive(Drop)]
+pub struct Advertisement<'a> {
+    pub name: &'a Text,
+    pub lifetime: u64,
+    pub block: &'a [u8],
+}
 
 /// `advertise`: the ad of the block is put under the name, born at the moment. It counts two at most in `touch`.
 #[tactic(auto, unfolding(pool_replies::specs::Replies::is_printable, pool_replies::specs::Refusals::is_printable_refusal))]
@@ -29,25 +37,35 @@ pub fn advertise<T: Ledger>(
     alloc: Global,
     books: &mut Books,
     moment: u64,
-    name: &Text,
-    lifetime: u64,
-    block: &[u8],
+    advertisement: Advertisement<'_>,
     touch: &mut Steps<T>,
 ) -> Result<Reply, OutOfMemory>
-    requires { IsTrue (is_block_text block.now) }
+    requires { IsTrue (is_block_text advertisement.block.now) }
     ensures step { IfOk result (λ reply. (priorities : List Setting)
-        → steps.advertise (state_with moment priorities books.old) name.now lifetime (length block.now) (ad_outcome block.now)
+        → steps.advertise (state_with moment priorities books.old) advertisement.entry.name.now advertisement.entry.lifetime
+        (length advertisement.entry.block.now) (ad_outcome advertisement.entry.block.now)
         ≡ (state_with moment priorities books.new, reply)) }
     ensures printable { IfOk result (λ reply. IsTrue (is_printable reply)) }
     ensures looks { touch.new ≤ touch.old + 2 }
 {
+    let Advertisement {
+        name,
+        lifetime,
+        block,
+    } = advertisement;
     let ad = match parse_ad(alloc, block) {
         Ok(ad) => ad,
         Err(fault) => return faulty(fault),
     };
     let named = name.copy()?;
-    let size = block.len() as u64;
-    match books.put(alloc, name.bytes(), moment, lifetime, size, ad, touch) {
+    let advertised = Advertised {
+        name: name.bytes(),
+        born: moment,
+        lifetime,
+        text_len: block.len() as u64,
+        ad,
+    };
+    match books.put(alloc, advertised, touch) {
         Ok(Put::Added(_)) => Ok(Reply::Advertised(named)),
         Ok(Put::Replaced(_)) => Ok(Reply::Replaced(named)),
         Err(PutFault::Full) => Ok(Reply::Refused(Refusal::Full(Room::Ads))),

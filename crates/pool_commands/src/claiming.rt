@@ -1,5 +1,6 @@
 // The commands that claim what is offered to a job, and that give it back.
 ghost use Rattle.std.specs.Prelude.{◌≡◌, ◌≤◌, ◌+◌, ◌*◌, ℕ, List, true, map, Contains, Err, IfOk, IsTrue};
+ghost use Rattle.pool_steps.specs.Spent.{IsPaid, IsSame};
 ghost use Rattle.ad_store.specs.Store.{stock_of};
 ghost use Rattle.claim_table.specs.Priorities.{Setting};
 ghost use Rattle.claim_table.specs.Settings.{settings_of};
@@ -17,7 +18,7 @@ use ad_store::Store;
 use claim_table::{ClaimFault, FreedList, JobFault, JobState, Priorities};
 use pool_books::{Books, name_of, names_given};
 use pool_replies::{Refusal, Reply};
-use pool_steps::Steps;
+use pool_steps::Meter;
 use pool_text::{Names, OutOfMemory, Text};
 use std::alloc::Global;
 use std::convert::AsSlice;
@@ -33,20 +34,21 @@ pub fn claim<F: Ledger, E: Ledger, T: Ledger>(
     priorities: &Priorities,
     job: &Text,
     moment: u64,
-    tops: &mut Steps<F>,
-    entry: &mut Steps<E>,
-    touch: &mut Steps<T>,
+    meter: &mut Meter<'_, F, E, T>,
 ) -> Result<Reply, OutOfMemory>
     ensures step { IfOk result (λ reply. steps.claim (state_with moment (settings_of priorities.now) books.old) job.now
         ≡ (state_with moment (settings_of priorities.now) books.new, reply)) }
     ensures printable { IfOk result (λ reply. IsTrue (is_printable reply)) }
-    ensures cost { (settings : List Setting) → tops.new ≤ tops.old + 4 * steps.undecided_for_claim (state_with moment settings books.old) job.now }
-    ensures ratio { entry.new + 9216 * tops.old ≤ entry.old + 9216 * tops.new }
-    ensures looks { (settings : List Setting) → touch.new ≤ touch.old + 9 * steps.offered_for_claim (state_with moment settings books.old) job.now }
+    ensures cost { (settings : List Setting)
+        → meter.new.tops.now ≤ meter.old.tops.now + 4 * steps.undecided_for_claim (state_with moment settings books.old) job.now }
+    ensures same { IsSame meter.old meter.new }
+    ensures ratio { IsPaid meter.old meter.new }
+    ensures looks { (settings : List Setting)
+        → meter.new.touch.now ≤ meter.old.touch.now + 9 * steps.offered_for_claim (state_with moment settings books.old) job.now }
 {
     let named = job.copy()?;
     let names = names_given(alloc, books, job.bytes())?;
-    let answer = books.claim(priorities, job.bytes(), moment, tops, entry, touch);
+    let answer = books.claim(priorities, job.bytes(), moment, meter);
     claim_reply(alloc, &books.ads.store, named, names, answer)
 }
 

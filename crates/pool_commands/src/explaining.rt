@@ -1,5 +1,6 @@
 // Why a job matches the ads that it matches.
 ghost use Rattle.std.specs.Prelude.{◌≡◌, ◌+◌, ◌*◌, ◌≤◌, ◌<◌, length, Some, IfOk, IsTrue};
+ghost use Rattle.pool_steps.specs.Spent.{IsPaid, IsSame};
 ghost use Rattle.ad_store.specs.Store.{stock_of};
 ghost use Rattle.pool_replies.specs.Replies.{is_printable};
 ghost use Rattle.pool_books.specs.Books.{queue_of};
@@ -9,7 +10,7 @@ ghost use Rattle.pool_commands.specs.Explaining as steps;
 use ad_store::Store;
 use pool_books::Books;
 use pool_replies::{Refusal, Reply};
-use pool_steps::Steps;
+use pool_steps::Meter;
 use pool_text::{Names, OutOfMemory, Text};
 use std::alloc::Global;
 use std::sync::ledger::Ledger;
@@ -22,15 +23,14 @@ pub fn explain<F: Ledger, E: Ledger, T: Ledger>(
     books: &Books,
     moment: u64,
     job: &[u8],
-    tops: &mut Steps<F>,
-    entry: &mut Steps<E>,
-    touch: &mut Steps<T>,
+    meter: &mut Meter<'_, F, E, T>,
 ) -> Result<Reply, OutOfMemory>
     ensures reply { IfOk result (λ reply. steps.explain moment (ads_of books.now.ads) (queue_of books.now) job.now ≡ reply) }
     ensures printable { IfOk result (λ reply. IsTrue (is_printable reply)) }
-    ensures cost { tops.new ≤ tops.old + steps.explained_evaluations (ads_of books.now.ads) (queue_of books.now) job.now }
-    ensures ratio { entry.new + 9216 * tops.old ≤ entry.old + 9216 * tops.new }
-    ensures looks { touch.new ≤ touch.old + length (ads_of books.now.ads) }
+    ensures cost { meter.new.tops.now ≤ meter.old.tops.now + steps.explained_evaluations (ads_of books.now.ads) (queue_of books.now) job.now }
+    ensures same { IsSame meter.old meter.new }
+    ensures ratio { IsPaid meter.old meter.new }
+    ensures looks { meter.new.touch.now ≤ meter.old.touch.now + length (ads_of books.now.ads) }
 {
     let claims = &books.claims;
     let Some(i) = claims.number(job) else {
@@ -43,7 +43,15 @@ pub fn explain<F: Ledger, E: Ledger, T: Ledger>(
     let store = &books.ads.store;
     let names = names_in_order(alloc, store)?;
     let job = claims.job(i).copy()?;
-    let report = match_explain::explain(alloc, store, request, moment, tops, entry, touch)?;
+    let report = match_explain::explain(
+        alloc,
+        store,
+        request,
+        moment,
+        meter.tops,
+        meter.entry,
+        meter.touch,
+    )?;
     Ok(Reply::Why { job, names, report })
 }
 

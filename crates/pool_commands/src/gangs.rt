@@ -1,6 +1,7 @@
 // Gangs: the resources that the ports of a request are given.
 ghost use Rattle.std.specs.Prelude.{◌≡◌, ◌+◌, ◌*◌, ◌≤◌, IfOk, IfSome, IsTrue, Some};
 ghost use Rattle.ad_parser.specs.Outcomes.{ad_outcome};
+ghost use Rattle.pool_steps.specs.Spent.{IsPaid, IsSame};
 ghost use Rattle.ad_store.specs.Store.{stock_of};
 ghost use Rattle.ad_tree.specs.Ad.{ad_frames};
 ghost use Rattle.ad_tree.specs.Requests.{ArePorts};
@@ -24,7 +25,7 @@ use claim_table::{Priorities, Standing};
 use gang_ports::{PortsFault, first_gang, read_ports};
 use pool_books::{Books, names_of};
 use pool_replies::{Refusal, Reply};
-use pool_steps::Steps;
+use pool_steps::Meter;
 use pool_text::{Names, OutOfMemory};
 use std::alloc::Global;
 use std::convert::AsSlice;
@@ -40,19 +41,18 @@ pub fn gang<F: Ledger, E: Ledger, T: Ledger>(
     priorities: &Priorities,
     moment: u64,
     block: &[u8],
-    tops: &mut Steps<F>,
-    entry: &mut Steps<E>,
-    touch: &mut Steps<T>,
+    meter: &mut Meter<'_, F, E, T>,
 ) -> Result<Reply, OutOfMemory>
     requires block { IsTrue (is_block_text block.now) }
     requires index { IsIndex books.now.ads.index (rows_of (stock_of books.now.ads.store)) }
     ensures reply { IfOk result (λ reply. steps.gang moment (ads_of books.now.ads) (settings_of priorities.now) (queue_of books.now) (ad_outcome block.now)
         ≡ reply) }
     ensures printable { IfOk result (λ reply. IsTrue (is_printable reply)) }
-    ensures cost { tops.new ≤ tops.old + 3 * steps.undecided_for_gang moment (ads_of books.now.ads) (settings_of priorities.now) (queue_of
+    ensures cost { meter.new.tops.now ≤ meter.old.tops.now + 3 * steps.undecided_for_gang moment (ads_of books.now.ads) (settings_of priorities.now) (queue_of
         books.now) (ad_outcome block.now) }
-    ensures ratio { entry.new + 9216 * tops.old ≤ entry.old + 9216 * tops.new }
-    ensures looks { touch.new ≤ touch.old + steps.narrowest_for_gang (ads_of books.now.ads) (ad_outcome block.now) }
+    ensures same { IsSame meter.old meter.new }
+    ensures ratio { IsPaid meter.old meter.new }
+    ensures looks { meter.new.touch.now ≤ meter.old.touch.now + steps.narrowest_for_gang (ads_of books.now.ads) (ad_outcome block.now) }
 {
     let ad = match parse_ad(alloc, block) {
         Ok(ad) => ad,
@@ -62,9 +62,7 @@ pub fn gang<F: Ledger, E: Ledger, T: Ledger>(
         return Ok(Reply::Refused(Refusal::BadPorts));
     };
     let request = Request { ad, ports };
-    let names = gang_names(
-        alloc, books, priorities, &request, moment, tops, entry, touch,
-    );
+    let names = gang_names(alloc, books, priorities, &request, moment, meter);
     drop(request);
     Ok(line(names?))
 }
@@ -88,18 +86,17 @@ fn gang_names<F: Ledger, E: Ledger, T: Ledger>(
     priorities: &Priorities,
     request: &Request,
     moment: u64,
-    tops: &mut Steps<F>,
-    entry: &mut Steps<E>,
-    touch: &mut Steps<T>,
+    meter: &mut Meter<'_, F, E, T>,
 ) -> Result<Option<Names>, OutOfMemory>
     requires ports { ports_of (ad_frames request.now.ad) ≡ Some request.now.ports }
     requires index { IsIndex books.now.ads.index (rows_of (stock_of books.now.ads.store)) }
     ensures names { IfOk result (λ names. names
         ≡ steps.gang_names moment (ads_of books.now.ads) (settings_of priorities.now) (queue_of books.now) (ad_frames request.now.ad) request.now.ports) }
-    ensures cost { tops.new ≤ tops.old
+    ensures cost { meter.new.tops.now ≤ meter.old.tops.now
         + 3 * steps.open_docks_of (pool_in moment (ads_of books.now.ads) (settings_of priorities.now) (queue_of books.now)) (ad_frames request.now.ad) request.now.ports }
-    ensures ratio { IsSmall (ad_frames request.now.ad) → entry.new + 9216 * tops.old ≤ entry.old + 9216 * tops.new }
-    ensures looks { touch.new ≤ touch.old + looks_most (ads_of books.now.ads) (ad_frames request.now.ad) request.now.ports }
+    ensures same { IsSame meter.old meter.new }
+    ensures ratio { IsSmall (ad_frames request.now.ad) → IsPaid meter.old meter.new }
+    ensures looks { meter.new.touch.now ≤ meter.old.touch.now + looks_most (ads_of books.now.ads) (ad_frames request.now.ad) request.now.ports }
 {
     let ads = &books.ads;
     ads.store.names_are_apart();
@@ -109,7 +106,15 @@ fn gang_names<F: Ledger, E: Ledger, T: Ledger>(
         priorities,
     };
     let found = first_gang(
-        alloc, &ads.store, &ads.index, &standing, request, moment, tops, entry, touch,
+        alloc,
+        &ads.store,
+        &ads.index,
+        &standing,
+        request,
+        moment,
+        meter.tops,
+        meter.entry,
+        meter.touch,
     )?;
     let Some(slots) = found else {
         return Ok(None);

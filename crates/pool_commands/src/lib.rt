@@ -13,7 +13,7 @@ mod queries;
 mod queue;
 mod submission;
 
-pub use ads::{advertise, list, show, withdraw};
+pub use ads::{Advertisement, advertise, list, show, withdraw};
 pub use claiming::{claim, release};
 pub use classing::classify;
 pub use explaining::explain;

@@ -1,5 +1,6 @@
 // Negotiation: a cycle that offers resources to idle jobs, and its rows.
 ghost use Rattle.std.specs.Prelude.{◌≡◌, ◌+◌, ◌*◌, ◌≤◌, map, All, IfOk, IsTrue};
+ghost use Rattle.pool_steps.specs.Spent.{IsPaid, IsSame};
 ghost use Rattle.ad_store.specs.Store.{stock_of};
 ghost use Rattle.ad_candidates.specs.Rows.{rows_of};
 ghost use Rattle.literal_index.specs.Shown.{IsIndex};
@@ -13,7 +14,7 @@ use ad_store::Store;
 use negotiator::{Cycle, Offered, OfferedList, Priorities, Turn, Turns};
 use pool_books::{Books, names_of};
 use pool_replies::{OfferRow, OfferRows, Reply, SpinRow, SpinRows, TurnRow, TurnRows};
-use pool_steps::Steps;
+use pool_steps::Meter;
 use pool_text::OutOfMemory;
 use std::alloc::Global;
 use std::convert::AsSlice;
@@ -28,19 +29,18 @@ pub fn negotiate<F: Ledger, E: Ledger, T: Ledger>(
     books: &mut Books,
     priorities: &Priorities,
     moment: u64,
-    tops: &mut Steps<F>,
-    entry: &mut Steps<E>,
-    touch: &mut Steps<T>,
+    meter: &mut Meter<'_, F, E, T>,
 ) -> Result<Reply, OutOfMemory>
     requires { IsIndex books.old.ads.index (rows_of (stock_of books.old.ads.store)) }
     ensures step { IfOk result (λ reply. steps.negotiate (state_with moment (settings_of priorities.now) books.old)
         ≡ (state_with moment (settings_of priorities.now) books.new, reply)) }
     ensures printable { IfOk result (λ reply. IsTrue (is_printable reply)) }
-    ensures cost { tops.new ≤ tops.old + 5 * steps.undecided_for_jobs (state_with moment (settings_of priorities.now) books.old) }
-    ensures ratio { entry.new + 9216 * tops.old ≤ entry.old + 9216 * tops.new }
-    ensures looks { touch.new ≤ touch.old + steps.looks_for_jobs (state_with moment (settings_of priorities.now) books.old) }
+    ensures cost { meter.new.tops.now ≤ meter.old.tops.now + 5 * steps.undecided_for_jobs (state_with moment (settings_of priorities.now) books.old) }
+    ensures same { IsSame meter.old meter.new }
+    ensures ratio { IsPaid meter.old meter.new }
+    ensures looks { meter.new.touch.now ≤ meter.old.touch.now + steps.looks_for_jobs (state_with moment (settings_of priorities.now) books.old) }
 {
-    let spins = books.negotiate(alloc, priorities, moment, tops, entry, touch)?;
+    let spins = books.negotiate(alloc, priorities, moment, meter)?;
     let rows = spin_rows(alloc, &books.ads.store, &spins);
     drop(spins);
     Ok(Reply::Cycle(rows?))

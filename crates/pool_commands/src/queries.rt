@@ -1,6 +1,7 @@
 // Queries: the ads whose dock with a request is true.
 ghost use Rattle.std.specs.Prelude.{◌≡◌, ◌+◌, ◌*◌, ◌≤◌, ◌<◌, List, [], length, map, All, Contains, IfOk, IsTrue};
 ghost use Rattle.ad_parser.specs.Outcomes.{ad_outcome};
+ghost use Rattle.pool_steps.specs.Spent.{IsPaid, IsSame};
 ghost use Rattle.ad_store.specs.Store.{stock_of};
 ghost use Rattle.ad_tree.specs.Ad.{ad_frames};
 ghost use Rattle.ad_tree.specs.Small.{IsSmall};
@@ -24,7 +25,7 @@ use ad_tree::{Ports, Request};
 use bilateral_match::{Hit, Hits};
 use pool_books::IndexedStore;
 use pool_replies::{HitRow, HitRows, Reply};
-use pool_steps::Steps;
+use pool_steps::Meter;
 use pool_text::OutOfMemory;
 use std::alloc::Global;
 use std::sync::ledger::Ledger;
@@ -38,17 +39,16 @@ pub fn query<F: Ledger, E: Ledger, T: Ledger>(
     ads: &IndexedStore,
     moment: u64,
     block: &[u8],
-    tops: &mut Steps<F>,
-    entry: &mut Steps<E>,
-    touch: &mut Steps<T>,
+    meter: &mut Meter<'_, F, E, T>,
 ) -> Result<Reply, OutOfMemory>
     requires block { IsTrue (is_block_text block.now) }
     requires index { IsIndex ads.now.index (rows.rows_of (stock_of ads.now.store)) }
     ensures reply { IfOk result (λ reply. steps.query moment (ads_of ads.now) (ad_outcome block.now) ≡ reply) }
     ensures printable { IfOk result (λ reply. IsTrue (is_printable reply)) }
-    ensures cost { tops.new ≤ tops.old + 5 * steps.undecided_docks (ads_of ads.now) (ad_outcome block.now) }
-    ensures ratio { entry.new + 9216 * tops.old ≤ entry.old + 9216 * tops.new }
-    ensures looks { touch.new ≤ touch.old + steps.narrowest (ads_of ads.now) (ad_outcome block.now) }
+    ensures cost { meter.new.tops.now ≤ meter.old.tops.now + 5 * steps.undecided_docks (ads_of ads.now) (ad_outcome block.now) }
+    ensures same { IsSame meter.old meter.new }
+    ensures ratio { IsPaid meter.old meter.new }
+    ensures looks { meter.new.touch.now ≤ meter.old.touch.now + steps.narrowest (ads_of ads.now) (ad_outcome block.now) }
 {
     let ad = match parse_ad(alloc, block) {
         Ok(ad) => ad,
@@ -58,7 +58,7 @@ pub fn query<F: Ledger, E: Ledger, T: Ledger>(
         ad,
         ports: Ports::new(alloc),
     };
-    let rows = hit_rows(alloc, ads, &request, moment, tops, entry, touch);
+    let rows = hit_rows(alloc, ads, &request, moment, meter);
     drop(request);
     Ok(Reply::Hits(rows?))
 }
@@ -69,21 +69,27 @@ fn hit_rows<F: Ledger, E: Ledger, T: Ledger>(
     ads: &IndexedStore,
     request: &Request,
     moment: u64,
-    tops: &mut Steps<F>,
-    entry: &mut Steps<E>,
-    touch: &mut Steps<T>,
+    meter: &mut Meter<'_, F, E, T>,
 ) -> Result<HitRows, OutOfMemory>
     requires ports { request.now.ports ≡ [] }
     requires index { IsIndex ads.now.index (rows.rows_of (stock_of ads.now.store)) }
     ensures rows { IfOk result (λ rows. rows
         ≡ map (steps.hit_row (ads_of ads.now)) (answers moment (ad_frames request.now.ad) (ads_of ads.now))) }
-    ensures cost { tops.new ≤ tops.old + 3 * undecided_count (ad_frames request.now.ad) (ads_of ads.now) }
-    ensures ratio { IsSmall (ad_frames request.now.ad) → entry.new + 9216 * tops.old ≤ entry.old + 9216 * tops.new }
-    ensures looks { touch.new ≤ touch.old + least_left (ads_of ads.now) (tests_of (ad_frames request.now.ad) 0 []) }
+    ensures cost { meter.new.tops.now ≤ meter.old.tops.now + 3 * undecided_count (ad_frames request.now.ad) (ads_of ads.now) }
+    ensures same { IsSame meter.old meter.new }
+    ensures ratio { IsSmall (ad_frames request.now.ad) → IsPaid meter.old meter.new }
+    ensures looks { meter.new.touch.now ≤ meter.old.touch.now + least_left (ads_of ads.now) (tests_of (ad_frames request.now.ad) 0 []) }
 {
     bilateral_match::answers_are_all_matches_in_order(moment, &request.ad);
     let hits = bilateral_match::query(
-        alloc, &ads.store, &ads.index, request, moment, tops, entry, touch,
+        alloc,
+        &ads.store,
+        &ads.index,
+        request,
+        moment,
+        meter.tops,
+        meter.entry,
+        meter.touch,
     )?;
     rows_of(alloc, &ads.store, &hits)
 }

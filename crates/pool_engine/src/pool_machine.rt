@@ -1,19 +1,20 @@
 // A pool that runs the commands of a script as they end.
-ghost use Rattle.std.specs.Prelude.{◌≡◌, ◌+◌, ◌*◌, ◌≤◌, ◌∷◌, [], false, IfOk, IsTrue, OnErr, OnOk};
+ghost use Rattle.std.specs.Prelude.{◌≡◌, ◌∷◌, [], false, IfOk, IsTrue, OnErr, OnOk};
+ghost use Rattle.pool_steps.specs.Spent.{IsPaid, IsSame};
 ghost use Rattle.pool_script.specs.Form.{is_within_form};
 ghost use Rattle.pool_script.specs.Standing.{Stands};
 ghost use Rattle.pool_replies.specs.Replies.{is_printable, refusal_count, reply_text};
 ghost use Rattle.pool_state.specs.Heard.{heard, step_heard};
 ghost use Rattle.pool_state.specs.Pool.{state_of};
 ghost use Rattle.pool_books.specs.State.{opening};
-ghost use Rattle.script_run.specs.Effects.{beside};
+ghost use Rattle.script_run.specs.Effects.{beside_of};
 ghost use Rattle.run_rules.specs.PoolRules.{Ran, WasTried};
 
 use notice_desk::Notices;
 use pool_replies::{Reply, print_reply, refusals};
 use pool_script::{Command, Script};
 use pool_state::Pool;
-use pool_steps::Steps;
+use pool_steps::Meter;
 use pool_text::OutOfMemory;
 use script_run::{Answer, Machine};
 use std::alloc::Global;
@@ -71,22 +72,12 @@ impl Machine for PoolMachine {
     fn answer<D: Notices, F: Ledger, E: Ledger, T: Ledger>(
         &mut self,
         desk: &mut D,
-        tops: &mut Steps<F>,
-        entry: &mut Steps<E>,
-        touch: &mut Steps<T>,
+        meter: &mut Meter<'_, F, E, T>,
     ) -> Result<Option<Answer>, OutOfMemory> {
         let Some(command) = self.script.take() else {
             return Ok(None);
         };
-        let answered = answer_command(
-            self.alloc,
-            &mut self.pool,
-            command,
-            desk,
-            tops,
-            entry,
-            touch,
-        )?;
+        let answered = answer_command(self.alloc, &mut self.pool, command, desk, meter)?;
         Ok(Some(answered))
     }
 }
@@ -97,21 +88,20 @@ fn answer_command<D: Notices, F: Ledger, E: Ledger, T: Ledger>(
     pool: &mut Pool,
     command: Command,
     desk: &mut D,
-    tops: &mut Steps<F>,
-    entry: &mut Steps<E>,
-    touch: &mut Steps<T>,
+    meter: &mut Meter<'_, F, E, T>,
 ) -> Result<Answer, OutOfMemory>
     requires { IsTrue (is_within_form command) }
     ensures state { OnOk result (heard (state_of pool.new) (D.shows desk.new) ≡ (step_heard (heard (state_of pool.old) (D.shows desk.old)) command).0) }
     ensures text { IfOk result (λ answer. answer.text ≡ reply_text (step_heard (heard (state_of pool.old) (D.shows desk.old)) command).1) }
     ensures refusals { IfOk result (λ answer. answer.refusals ≡ refusal_count (step_heard (heard (state_of pool.old) (D.shows desk.old)) command).1) }
     ensures ran { OnOk result (Ran (heard (state_of pool.old) (D.shows desk.old)) (command ∷ [])
-        (beside tops.old touch.old (D.shows desk.old)) (beside tops.new touch.new (D.shows desk.new))) }
+        (beside_of meter.old (D.shows desk.old)) (beside_of meter.new (D.shows desk.new))) }
     ensures tried { OnErr result (WasTried (heard (state_of pool.old) (D.shows desk.old)) command
-        (beside tops.old touch.old (D.shows desk.old)) (beside tops.new touch.new (D.shows desk.new))) }
-    ensures ratio { entry.new + 9216 * tops.old ≤ entry.old + 9216 * tops.new }
+        (beside_of meter.old (D.shows desk.old)) (beside_of meter.new (D.shows desk.new))) }
+    ensures same { IsSame meter.old meter.new }
+    ensures ratio { IsPaid meter.old meter.new }
 {
-    let ran = run_command(pool, command, desk, tops, entry, touch);
+    let ran = run_command(pool, command, desk, meter);
     let reply = ran?;
     let printed = print(alloc, &reply);
     drop(reply);
@@ -135,21 +125,20 @@ pub(crate) fn run_command<D: Notices, F: Ledger, E: Ledger, T: Ledger>(
     pool: &mut Pool,
     command: Command,
     desk: &mut D,
-    tops: &mut Steps<F>,
-    entry: &mut Steps<E>,
-    touch: &mut Steps<T>,
+    meter: &mut Meter<'_, F, E, T>,
 ) -> Result<Reply, OutOfMemory>
     requires { IsTrue (is_within_form command) }
     ensures step { IfOk result (λ reply. step_heard (heard (state_of pool.old) (D.shows desk.old)) command
         ≡ (heard (state_of pool.new) (D.shows desk.new), reply)) }
     ensures printable { IfOk result (λ reply. IsTrue (is_printable reply)) }
     ensures ran { OnOk result (Ran (heard (state_of pool.old) (D.shows desk.old)) (command ∷ [])
-        (beside tops.old touch.old (D.shows desk.old)) (beside tops.new touch.new (D.shows desk.new))) }
+        (beside_of meter.old (D.shows desk.old)) (beside_of meter.new (D.shows desk.new))) }
     ensures tried { WasTried (heard (state_of pool.old) (D.shows desk.old)) command
-        (beside tops.old touch.old (D.shows desk.old)) (beside tops.new touch.new (D.shows desk.new)) }
-    ensures ratio { entry.new + 9216 * tops.old ≤ entry.old + 9216 * tops.new }
+        (beside_of meter.old (D.shows desk.old)) (beside_of meter.new (D.shows desk.new)) }
+    ensures same { IsSame meter.old meter.new }
+    ensures ratio { IsPaid meter.old meter.new }
 {
-    let ran = pool.step(&command, desk, tops, entry, touch);
+    let ran = pool.step(&command, desk, meter.tops, meter.entry, meter.touch);
     drop(command);
     ran
 }

@@ -2,10 +2,11 @@
 ghost use Rattle.std.specs.Prelude.{◌≡◌, ◌≢◌, ◌↔◌, ◌+◌, ◌-◌, ◌*◌, ◌^◌, ◌<◌, ◌≤◌, length, IsTrue, IfSome};
 ghost use Rattle.claim_wire.specs.Wires.{IsNumber, new_wire};
 ghost use Rattle.pool_io.specs.Flow.{Rose};
+ghost use Rattle.pool_steps.specs.Spent.{IsPaid, IsSame};
 ghost use Rattle.pool_script.specs.Commands.{whole_commands};
 ghost use Rattle.pool_script.specs.GivenLines.{whole_lines};
 ghost use Rattle.pool_state.specs.Heard.{opened};
-ghost use Rattle.script_run.specs.Effects.{effects};
+ghost use Rattle.script_run.specs.Effects.{effects, effects_of};
 ghost use Rattle.script_run.specs.Ends.{Ends, IsDoneOrOutOfMemory, LeavesAtMost};
 ghost use Rattle.script_run.specs.Limits.{input_limit};
 ghost use Rattle.script_run.specs.Rules.{text_of};
@@ -16,12 +17,12 @@ ghost use Rattle.run_rules.specs.WireRules.{wire_rules};
 use crate::command_line::{Asked, read_words};
 use crate::left::{Left, Rest};
 use crate::pool_machine::PoolMachine;
-use crate::wire_machine::WireMachine;
+use crate::wire_machine::{WireMachine, WireSize};
 use crate::workload_run::run_workload;
 use notice_desk::Notices;
 use pool_io::{Sink, Source};
 use pool_state::Pool;
-use pool_steps::Steps;
+use pool_steps::{Meter, Steps};
 use pool_text::Text;
 use script_run::{RunEnd, run};
 use std::alloc::Global;
@@ -37,15 +38,15 @@ use std::sync::ledger::Ledger;
 ///
 /// Over a run `entry` rises by at most 9,216 times the rise of `tops`, since a world has at most nine ads of 1,024 attributes
 /// each.
-pub fn run_pool<S: Source, K: Sink, D: Notices, F: Ledger, E: Ledger, T: Ledger>(
+pub fn run_pool<'a, S: Source, K: Sink, D: Notices, F: Ledger, E: Ledger, T: Ledger>(
     alloc: Global,
     words: &[Text],
     source: &mut S,
     sink: &mut K,
     desk: &mut D,
-    tops: &mut Steps<F>,
-    entry: &mut Steps<E>,
-    touch: &mut Steps<T>,
+    tops: &'a mut Steps<F>,
+    entry: &'a mut Steps<E>,
+    touch: &'a mut Steps<T>,
 ) -> RunEnd
     ensures ends { AskedEnds (asked_by words.now) (S.shows source.old) (S.shows source.new)
         (effects (K.shows sink.old) tops.old touch.old (D.shows desk.old)) (effects (K.shows sink.new) tops.new touch.new (D.shows desk.new)) result }
@@ -80,7 +81,8 @@ pub fn run_pool<S: Source, K: Sink, D: Notices, F: Ledger, E: Ledger, T: Ledger>
         length (asked_text (asked_by words.now) (D.shows desk.old) bytes) ≤ (K.shows sink.old).sure
         → result ≢ RunEnd.WriteFault) }
 {
-    let (end, left) = run_and_keep(alloc, words, source, sink, desk, tops, entry, touch);
+    let mut meter = Meter::new(tops, entry, touch);
+    let (end, left) = run_and_keep(alloc, words, source, sink, desk, &mut meter);
     drop(left);
     end
 }
@@ -92,13 +94,12 @@ pub fn run_and_keep<S: Source, K: Sink, D: Notices, F: Ledger, E: Ledger, T: Led
     source: &mut S,
     sink: &mut K,
     desk: &mut D,
-    tops: &mut Steps<F>,
-    entry: &mut Steps<E>,
-    touch: &mut Steps<T>,
+    meter: &mut Meter<'_, F, E, T>,
 ) -> (RunEnd, Left)
     ensures ends { AskedEnds (asked_by words.now) (S.shows source.old) (S.shows source.new)
-        (effects (K.shows sink.old) tops.old touch.old (D.shows desk.old)) (effects (K.shows sink.new) tops.new touch.new (D.shows desk.new)) result.0 }
-    ensures ratio { entry.new + 9216 * tops.old ≤ entry.old + 9216 * tops.new }
+        (effects_of (K.shows sink.old) meter.old (D.shows desk.old)) (effects_of (K.shows sink.new) meter.new (D.shows desk.new)) result.0 }
+    ensures same { IsSame meter.old meter.new }
+    ensures ratio { IsPaid meter.old meter.new }
 
     // Where the words are wrong nothing was read or written, and a workload reads nothing.
     ensures words { (result.0 ≡ RunEnd.BadWords) ↔ (asked_by words.now ≡ Asked.Bad) }
@@ -136,10 +137,10 @@ pub fn run_and_keep<S: Source, K: Sink, D: Notices, F: Ledger, E: Ledger, T: Led
                 rest: Rest::Nothing,
             },
         ),
-        Asked::Pool => run_script(alloc, source, sink, desk, tops, entry, touch),
+        Asked::Pool => run_script(alloc, source, sink, desk, meter),
         Asked::Workload { machines } => {
             let mut pool = Pool::new(alloc);
-            let end = run_workload(alloc, machines, &mut pool, sink, desk, tops, entry, touch);
+            let end = run_workload(alloc, machines, &mut pool, sink, desk, meter);
             (
                 end,
                 Left {
@@ -151,9 +152,11 @@ pub fn run_and_keep<S: Source, K: Sink, D: Notices, F: Ledger, E: Ledger, T: Led
             resources,
             customers,
         } => {
-            let end = run_wire(
-                alloc, resources, customers, source, sink, desk, tops, entry, touch,
-            );
+            let size = WireSize {
+                resources,
+                customers,
+            };
+            let end = run_wire(alloc, size, source, sink, desk, meter);
             (
                 end,
                 Left {
@@ -170,13 +173,12 @@ fn run_script<S: Source, K: Sink, D: Notices, F: Ledger, E: Ledger, T: Ledger>(
     source: &mut S,
     sink: &mut K,
     desk: &mut D,
-    tops: &mut Steps<F>,
-    entry: &mut Steps<E>,
-    touch: &mut Steps<T>,
+    meter: &mut Meter<'_, F, E, T>,
 ) -> (RunEnd, Left)
     ensures ends { Ends pool_rules (opened (D.shows desk.old)) (S.shows source.old) (S.shows source.new)
-        (effects (K.shows sink.old) tops.old touch.old (D.shows desk.old)) (effects (K.shows sink.new) tops.new touch.new (D.shows desk.new)) result.0 }
-    ensures ratio { entry.new + 9216 * tops.old ≤ entry.old + 9216 * tops.new }
+        (effects_of (K.shows sink.old) meter.old (D.shows desk.old)) (effects_of (K.shows sink.new) meter.new (D.shows desk.new)) result.0 }
+    ensures same { IsSame meter.old meter.new }
+    ensures ratio { IsPaid meter.old meter.new }
     ensures words { result.0 ≢ RunEnd.BadWords }
     ensures complete { LeavesAtMost input_limit (S.shows source.old).left
         → ¬ Rose (S.shows source.old).faults (S.shows source.new).faults
@@ -196,7 +198,7 @@ fn run_script<S: Source, K: Sink, D: Notices, F: Ledger, E: Ledger, T: Ledger>(
         → result.0 ≢ RunEnd.WriteFault) }
 {
     let mut machine = PoolMachine::new(alloc);
-    let end = run(&mut machine, source, sink, desk, tops, entry, touch);
+    let end = run(&mut machine, source, sink, desk, meter);
     (
         end,
         Left {
@@ -208,22 +210,20 @@ fn run_script<S: Source, K: Sink, D: Notices, F: Ledger, E: Ledger, T: Ledger>(
 // Runs the schedule that a source gives on a wire of so many resources and customers.
 fn run_wire<S: Source, K: Sink, D: Notices, F: Ledger, E: Ledger, T: Ledger>(
     alloc: Global,
-    resources: u32,
-    customers: u32,
+    size: WireSize,
     source: &mut S,
     sink: &mut K,
     desk: &mut D,
-    tops: &mut Steps<F>,
-    entry: &mut Steps<E>,
-    touch: &mut Steps<T>,
+    meter: &mut Meter<'_, F, E, T>,
 ) -> RunEnd
-    requires resources { IsNumber 100 resources }
-    requires customers { IsNumber 100 customers }
-    ensures ends { Ends wire_rules (new_wire resources customers) (S.shows source.old) (S.shows source.new)
-        (effects (K.shows sink.old) tops.old touch.old (D.shows desk.old)) (effects (K.shows sink.new) tops.new touch.new (D.shows desk.new)) result }
-    ensures quiet { (effects (K.shows sink.new) tops.new touch.new (D.shows desk.new)).others
-        ≡ (effects (K.shows sink.old) tops.old touch.old (D.shows desk.old)).others }
-    ensures ratio { entry.new + 9216 * tops.old ≤ entry.old + 9216 * tops.new }
+    requires resources { IsNumber 100 size.resources }
+    requires customers { IsNumber 100 size.customers }
+    ensures ends { Ends wire_rules (new_wire size.resources size.customers) (S.shows source.old) (S.shows source.new)
+        (effects_of (K.shows sink.old) meter.old (D.shows desk.old)) (effects_of (K.shows sink.new) meter.new (D.shows desk.new)) result }
+    ensures quiet { (effects_of (K.shows sink.new) meter.new (D.shows desk.new)).others
+        ≡ (effects_of (K.shows sink.old) meter.old (D.shows desk.old)).others }
+    ensures same { IsSame meter.old meter.new }
+    ensures ratio { IsPaid meter.old meter.new }
     ensures words { result ≢ RunEnd.BadWords }
     ensures complete { LeavesAtMost input_limit (S.shows source.old).left
         → ¬ Rose (S.shows source.old).faults (S.shows source.new).faults
@@ -239,14 +239,14 @@ fn run_wire<S: Source, K: Sink, D: Notices, F: Ledger, E: Ledger, T: Ledger>(
         (S.shows source.new).reads + (S.shows source.old).given ≤ (S.shows source.old).reads + ((S.shows source.new).given + 1) }
     ensures sure_source { IsTrue (S.shows source.old).sure → result ≢ RunEnd.ReadFault }
     ensures sure_sink { IfSome (S.shows source.old).left (λ bytes.
-        length (text_of wire_rules (new_wire resources customers) (whole_lines bytes)) ≤ (K.shows sink.old).sure
+        length (text_of wire_rules (new_wire size.resources size.customers) (whole_lines bytes)) ≤ (K.shows sink.old).sure
         → result ≢ RunEnd.WriteFault) }
 {
-    let Ok(machine) = WireMachine::new(alloc, resources, customers) else {
+    let Ok(machine) = WireMachine::new(alloc, size) else {
         return RunEnd::OutOfMemory;
     };
     let mut machine = machine;
-    let end = run(&mut machine, source, sink, desk, tops, entry, touch);
+    let end = run(&mut machine, source, sink, desk, meter);
     drop(machine);
     end
 }

@@ -8,11 +8,18 @@ ghost use Rattle.run_rules.specs.WireRules.{WireAnswer};
 use crate::line_wire::LineWire;
 use notice_desk::Notices;
 use pool_script::{Line, Lines};
-use pool_steps::Steps;
+use pool_steps::Meter;
 use pool_text::OutOfMemory;
 use script_run::{Answer, Machine};
 use std::alloc::Global;
 use std::sync::ledger::Ledger;
+
+/// How many resources and customers a wire has.
+#[derive(Clone, Copy)]
+pub(crate) struct WireSize {
+    pub(crate) resources: u32,
+    pub(crate) customers: u32,
+}
 
 /// The lines so far, and the wire behind them.
 #[derive(Drop)]
@@ -22,21 +29,17 @@ pub(crate) struct WireMachine {
 }
 
 impl WireMachine {
-    pub(crate) fn new(
-        alloc: Global,
-        resources: u32,
-        customers: u32,
-    ) -> Result<WireMachine, OutOfMemory>
-        requires resources { IsNumber 100 resources }
-        requires customers { IsNumber 100 customers }
+    pub(crate) fn new(alloc: Global, size: WireSize) -> Result<WireMachine, OutOfMemory>
+        requires resources { IsNumber 100 size.resources }
+        requires customers { IsNumber 100 size.customers }
         ensures stands { IfOk result (λ machine. LinesStand machine.lines [] 0) }
         ensures waiting { IfOk result (λ machine. machine.lines.waiting ≡ []) }
         ensures over { IfOk result (λ machine. machine.lines.over ≡ false) }
-        ensures wire { IfOk result (λ machine. machine.wire ≡ new_wire resources customers) }
+        ensures wire { IfOk result (λ machine. machine.wire ≡ new_wire size.resources size.customers) }
     {
         Ok(WireMachine {
             lines: Lines::new(alloc),
-            wire: LineWire::new(alloc, resources, customers)?,
+            wire: LineWire::new(alloc, size.resources, size.customers)?,
         })
     }
 }
@@ -70,9 +73,7 @@ impl Machine for WireMachine {
     fn answer<D: Notices, F: Ledger, E: Ledger, T: Ledger>(
         &mut self,
         _desk: &mut D,
-        _tops: &mut Steps<F>,
-        _entry: &mut Steps<E>,
-        _touch: &mut Steps<T>,
+        _meter: &mut Meter<'_, F, E, T>,
     ) -> Result<Option<Answer>, OutOfMemory> {
         let Some(line) = self.lines.take() else {
             return Ok(None);

@@ -1,13 +1,14 @@
 // The run of a workload: its commands run as those of a script do, and a summary is offered in the place of replies.
-ghost use Rattle.std.specs.Prelude.{◌≡◌, ◌≢◌, ◌+◌, ◌*◌, ◌≤◌, ◌∷◌, [], false, length, IfOk, IsTrue, OnErr, OnOk};
+ghost use Rattle.std.specs.Prelude.{◌≡◌, ◌≢◌, ◌≤◌, ◌∷◌, [], false, length, IfOk, IsTrue, OnErr, OnOk};
 ghost use Rattle.workload.specs.Summary.{summary_text};
 ghost use Rattle.pool_io.specs.Flow.{Rose, WritesAll};
+ghost use Rattle.pool_steps.specs.Spent.{IsPaid, IsSame};
 ghost use Rattle.pool_script.specs.Commands.{whole_commands};
 ghost use Rattle.pool_script.specs.Form.{is_within_form};
 ghost use Rattle.pool_script.specs.Standing.{Stands};
 ghost use Rattle.pool_replies.specs.Replies.{hit_count, is_printable, offer_count, refusal_count, reply_text};
 ghost use Rattle.script_run.specs.Answering.{Stopped, Took};
-ghost use Rattle.script_run.specs.Effects.{beside, effects};
+ghost use Rattle.script_run.specs.Effects.{beside_of, effects_of};
 ghost use Rattle.script_run.specs.Ends.{IsDoneOrOutOfMemory};
 ghost use Rattle.run_rules.specs.Events.{event_of, events_of};
 ghost use Rattle.run_rules.specs.PoolRules.{WasTried, pool_rules};
@@ -22,7 +23,7 @@ use pool_io::{Failed, Sink, write_all};
 use pool_replies::{Reply, hits, offers, print_reply, refusals};
 use pool_script::{Command, Script};
 use pool_state::Pool;
-use pool_steps::Steps;
+use pool_steps::Meter;
 use pool_text::OutOfMemory;
 use script_run::RunEnd;
 use std::alloc::Global;
@@ -37,21 +38,20 @@ pub(crate) fn run_workload<K: Sink, D: Notices, F: Ledger, E: Ledger, T: Ledger>
     pool: &mut Pool,
     sink: &mut K,
     desk: &mut D,
-    tops: &mut Steps<F>,
-    entry: &mut Steps<E>,
-    touch: &mut Steps<T>,
+    meter: &mut Meter<'_, F, E, T>,
 ) -> RunEnd
     requires { state_of pool.old ≡ opening }
-    ensures ends { WorkloadEnds machines (effects (K.shows sink.old) tops.old touch.old (D.shows desk.old))
-        (effects (K.shows sink.new) tops.new touch.new (D.shows desk.new)) result }
-    ensures ratio { entry.new + 9216 * tops.old ≤ entry.old + 9216 * tops.new }
+    ensures ends { WorkloadEnds machines (effects_of (K.shows sink.old) meter.old (D.shows desk.old))
+        (effects_of (K.shows sink.new) meter.new (D.shows desk.new)) result }
+    ensures same { IsSame meter.old meter.new }
+    ensures ratio { IsPaid meter.old meter.new }
     ensures words { result ≢ RunEnd.BadWords }
     ensures complete { ¬ Rose (K.shows sink.old).faults (K.shows sink.new).faults → IsDoneOrOutOfMemory result }
     ensures sure_source { result ≢ RunEnd.ReadFault }
     ensures sure_sink { length (summary_of (workload_events machines (D.shows desk.old))) ≤ (K.shows sink.old).sure
         → result ≢ RunEnd.WriteFault }
 {
-    let Ok(summary) = summed(alloc, machines, pool, desk, tops, entry, touch) else {
+    let Ok(summary) = summed(alloc, machines, pool, desk, meter) else {
         return RunEnd::OutOfMemory;
     };
     let Ok(offered) = offer_summary(alloc, &summary, sink) else {
@@ -87,22 +87,21 @@ fn summed<D: Notices, F: Ledger, E: Ledger, T: Ledger>(
     machines: u64,
     pool: &mut Pool,
     desk: &mut D,
-    tops: &mut Steps<F>,
-    entry: &mut Steps<E>,
-    touch: &mut Steps<T>,
+    meter: &mut Meter<'_, F, E, T>,
 ) -> Result<Summary, OutOfMemory>
     requires { state_of pool.old ≡ opening }
     ensures summed { IfOk result (λ summary. IsSummaryOf summary (workload_events machines (D.shows desk.old))) }
     ensures took { IfOk result (λ summary. (t : Heard) × Took pool_rules (opened (D.shows desk.old)) t
-        (effects silent tops.old touch.old (D.shows desk.old)) (effects silent tops.new touch.new (D.shows desk.new))
+        (effects_of silent meter.old (D.shows desk.old)) (effects_of silent meter.new (D.shows desk.new))
         (workload_commands machines) 0 summary.refused) }
     ensures stopped { OnErr result (Stopped pool_rules (opened (D.shows desk.old))
-        (effects silent tops.old touch.old (D.shows desk.old)) (effects silent tops.new touch.new (D.shows desk.new))
+        (effects_of silent meter.old (D.shows desk.old)) (effects_of silent meter.new (D.shows desk.new))
         (workload_commands machines) RunEnd.OutOfMemory) }
-    ensures ratio { entry.new + 9216 * tops.old ≤ entry.old + 9216 * tops.new }
+    ensures same { IsSame meter.old meter.new }
+    ensures ratio { IsPaid meter.old meter.new }
 {
     let mut script = script_of(alloc, machines)?;
-    let summary = sum_waiting(alloc, &mut script, pool, desk, tops, entry, touch);
+    let summary = sum_waiting(alloc, &mut script, pool, desk, meter);
     drop(script);
     summary
 }
@@ -113,23 +112,22 @@ fn sum_waiting<D: Notices, F: Ledger, E: Ledger, T: Ledger>(
     script: &mut Script,
     pool: &mut Pool,
     desk: &mut D,
-    tops: &mut Steps<F>,
-    entry: &mut Steps<E>,
-    touch: &mut Steps<T>,
+    meter: &mut Meter<'_, F, E, T>,
 ) -> Result<Summary, OutOfMemory>
     ensures summed { IfOk result (λ summary.
         IsSummaryOf summary (events_of (heard (state_of pool.old) (D.shows desk.old)) script.old.waiting)) }
     ensures took { IfOk result (λ summary. (t : Heard) × Took pool_rules (heard (state_of pool.old) (D.shows desk.old)) t
-        (effects silent tops.old touch.old (D.shows desk.old)) (effects silent tops.new touch.new (D.shows desk.new))
+        (effects_of silent meter.old (D.shows desk.old)) (effects_of silent meter.new (D.shows desk.new))
         script.old.waiting 0 summary.refused) }
     ensures stopped { OnErr result (Stopped pool_rules (heard (state_of pool.old) (D.shows desk.old))
-        (effects silent tops.old touch.old (D.shows desk.old)) (effects silent tops.new touch.new (D.shows desk.new))
+        (effects_of silent meter.old (D.shows desk.old)) (effects_of silent meter.new (D.shows desk.new))
         script.old.waiting RunEnd.OutOfMemory) }
-    ensures ratio { entry.new + 9216 * tops.old ≤ entry.old + 9216 * tops.new }
+    ensures same { IsSame meter.old meter.new }
+    ensures ratio { IsPaid meter.old meter.new }
 {
     let mut summary = Summary::new();
     while let Some(command) = script.take() {
-        let one = answered(alloc, pool, command, desk, tops, entry, touch)?;
+        let one = answered(alloc, pool, command, desk, meter)?;
         summary.add(&one)?;
     }
     Ok(summary)
@@ -178,20 +176,19 @@ fn answered<D: Notices, F: Ledger, E: Ledger, T: Ledger>(
     pool: &mut Pool,
     command: Command,
     desk: &mut D,
-    tops: &mut Steps<F>,
-    entry: &mut Steps<E>,
-    touch: &mut Steps<T>,
+    meter: &mut Meter<'_, F, E, T>,
 ) -> Result<Summary, OutOfMemory>
     requires { IsTrue (is_within_form command) }
     ensures summed { IfOk result (λ summary.
         IsSummaryOf summary (event_of (heard (state_of pool.old) (D.shows desk.old)) command ∷ [])) }
     ensures took { IfOk result (λ summary. Took pool_rules (heard (state_of pool.old) (D.shows desk.old)) (heard (state_of pool.new) (D.shows desk.new))
-        (effects silent tops.old touch.old (D.shows desk.old)) (effects silent tops.new touch.new (D.shows desk.new)) (command ∷ []) 0 summary.refused) }
+        (effects_of silent meter.old (D.shows desk.old)) (effects_of silent meter.new (D.shows desk.new)) (command ∷ []) 0 summary.refused) }
     ensures tried { OnErr result (WasTried (heard (state_of pool.old) (D.shows desk.old)) command
-        (beside tops.old touch.old (D.shows desk.old)) (beside tops.new touch.new (D.shows desk.new))) }
-    ensures ratio { entry.new + 9216 * tops.old ≤ entry.old + 9216 * tops.new }
+        (beside_of meter.old (D.shows desk.old)) (beside_of meter.new (D.shows desk.new))) }
+    ensures same { IsSame meter.old meter.new }
+    ensures ratio { IsPaid meter.old meter.new }
 {
-    let ran = run_command(pool, command, desk, tops, entry, touch);
+    let ran = run_command(pool, command, desk, meter);
     let reply = ran?;
     let summary = summary_of_reply(alloc, &reply);
     drop(reply);

@@ -1,6 +1,7 @@
 // The pool and its steps.
 ghost use Rattle.std.specs.Prelude.{◌≡◌, ◌+◌, ◌*◌, ◌++◌, ◌≤◌, filter, true, false, IfOk, IsErr, IsTrue, OnErr, OnOk};
 ghost use Rattle.std.specs.List.{AllZip};
+ghost use Rattle.pool_steps.specs.Spent.{IsPaid, IsSame};
 ghost use Rattle.ad_store.specs.Store.{stock_of};
 ghost use Rattle.ad_candidates.specs.Rows.{rows_of};
 ghost use Rattle.literal_index.specs.Shown.{IsIndex};
@@ -10,7 +11,7 @@ ghost use Rattle.pool_replies.specs.Replies.{is_printable};
 ghost use Rattle.pool_replies.specs.declared.refusal.Refusal.TheVariants as why;
 ghost use Rattle.pool_books.specs.State.{State, opening};
 ghost use Rattle.pool_state.specs.Apart.{AreGivenApart};
-ghost use Rattle.pool_state.specs.Changes.{changes_nothing, is_search, keeps_ads};
+ghost use Rattle.pool_state.specs.Changes.{is_search};
 ghost use Rattle.pool_state.specs.Heard as rules;
 ghost use Rattle.pool_state.specs.Heard.{heard, kept_by, off_by, step_heard};
 ghost use Rattle.pool_state.specs.Notices.{notices};
@@ -23,12 +24,12 @@ use negotiator::Priorities;
 use notice_desk::Notices;
 use pool_books::Books;
 use pool_commands::{
-    advertise, claim, classify, eval, eval_in, explain, gang, jobs, list, negotiate, query,
-    release, remove, set_priority, show, show_job, submit, users, withdraw,
+    Advertisement, advertise, claim, classify, eval, eval_in, explain, gang, jobs, list, negotiate,
+    query, release, remove, set_priority, show, show_job, submit, users, withdraw,
 };
 use pool_replies::{Refusal, Reply};
 use pool_script::Command;
-use pool_steps::Steps;
+use pool_steps::{Meter, Steps};
 use pool_text::{OutOfMemory, Text};
 use std::alloc::Global;
 use std::sync::ledger::Ledger;
@@ -71,13 +72,13 @@ impl Pool {
     /// leave undecided (three for `gang`), in `entry` the attributes that they enter, and in `touch` the ads of the store that
     /// are looked into.
     #[tactic(auto, unfolding(crate::specs::Pool::state_of, crate::specs::Pool::is_spent))]
-    pub fn step<D: Notices, F: Ledger, E: Ledger, T: Ledger>(
+    pub fn step<'a, D: Notices, F: Ledger, E: Ledger, T: Ledger>(
         &mut self,
         command: &Command,
         desk: &mut D,
-        tops: &mut Steps<F>,
-        entry: &mut Steps<E>,
-        touch: &mut Steps<T>,
+        tops: &'a mut Steps<F>,
+        entry: &'a mut Steps<E>,
+        touch: &'a mut Steps<T>,
     ) -> Result<Reply, OutOfMemory>
         requires { IsTrue (is_within_form command.now) }
         ensures step { IfOk result (λ reply. step_heard (heard (state_of self.old) (D.shows desk.old)) command.now
@@ -100,7 +101,8 @@ impl Pool {
         if self.spent {
             return Err(OutOfMemory);
         }
-        let answered = self.answer_heard(command, desk, tops, entry, touch);
+        let mut meter = Meter::new(tops, entry, touch);
+        let answered = self.answer_heard(command, desk, &mut meter);
         self.spent = answered.is_err();
         answered
     }
@@ -109,9 +111,7 @@ impl Pool {
         &mut self,
         command: &Command,
         desk: &mut D,
-        tops: &mut Steps<F>,
-        entry: &mut Steps<E>,
-        touch: &mut Steps<T>,
+        meter: &mut Meter<'_, F, E, T>,
     ) -> Result<Reply, OutOfMemory>
         requires { IsTrue (is_within_form command.now) }
         ensures step { IfOk result (λ reply. step_heard (heard (state_of self.old) (D.shows desk.old)) command.now
@@ -123,13 +123,14 @@ impl Pool {
             (off_by command.now (desk_of (D.shows desk.old) (D.left desk.old))) (desk_of (D.shows desk.new) (D.left desk.new))) }
         ensures unposted { OnErr result (D.shows desk.new ≡ D.shows desk.old) }
         ensures none_left { OnErr result (D.left desk.new ≡ D.left desk.old) }
-        ensures cost { tops.new ≤ tops.old + steps.allowance (state_of self.old) command.now }
-        ensures ratio { entry.new + 9216 * tops.old ≤ entry.old + 9216 * tops.new }
-        ensures looks { touch.new ≤ touch.old + steps.looks (state_of self.old) command.now }
+        ensures cost { meter.new.tops.now ≤ meter.old.tops.now + steps.allowance (state_of self.old) command.now }
+        ensures same { IsSame meter.old meter.new }
+        ensures ratio { IsPaid meter.old meter.new }
+        ensures looks { meter.new.touch.now ≤ meter.old.touch.now + steps.looks (state_of self.old) command.now }
     {
         match command {
             Command::Unlisten(name) => unlisten(desk, name),
-            _ => self.answer_and_tell(command, desk, tops, entry, touch),
+            _ => self.answer_and_tell(command, desk, meter),
         }
     }
 
@@ -138,9 +139,7 @@ impl Pool {
         &mut self,
         command: &Command,
         desk: &mut D,
-        tops: &mut Steps<F>,
-        entry: &mut Steps<E>,
-        touch: &mut Steps<T>,
+        meter: &mut Meter<'_, F, E, T>,
     ) -> Result<Reply, OutOfMemory>
         requires form { IsTrue (is_within_form command.now) }
         ensures step { IfOk result (λ reply. steps.step (state_of self.old) command.now ≡ (state_of self.new, reply)) }
@@ -151,16 +150,17 @@ impl Pool {
             (desk_of (D.shows desk.old) (D.left desk.old)) (desk_of (D.shows desk.new) (D.left desk.new))) }
         ensures unposted { OnErr result (D.shows desk.new ≡ D.shows desk.old) }
         ensures none_left { OnErr result (D.left desk.new ≡ D.left desk.old) }
-        ensures cost { tops.new ≤ tops.old + steps.allowance (state_of self.old) command.now }
-        ensures ratio { entry.new + 9216 * tops.old ≤ entry.old + 9216 * tops.new }
-        ensures looks { touch.new ≤ touch.old + steps.looks (state_of self.old) command.now }
+        ensures cost { meter.new.tops.now ≤ meter.old.tops.now + steps.allowance (state_of self.old) command.now }
+        ensures same { IsSame meter.old meter.new }
+        ensures ratio { IsPaid meter.old meter.new }
+        ensures looks { meter.new.touch.now ≤ meter.old.touch.now + steps.looks (state_of self.old) command.now }
     {
         if desk.len() == 0 {
-            return self.answer(command, tops, entry, touch);
+            return self.answer(command, meter);
         }
         let granted = granted(self.alloc, &self.books, command)?;
         let stale = stale(self.alloc, &self.books, command)?;
-        let reply = self.answer(command, tops, entry, touch)?;
+        let reply = self.answer(command, meter)?;
         tell(self.alloc, reply, granted, stale, desk)
     }
 
@@ -172,187 +172,128 @@ impl Pool {
         self.books.resources_are_apart();
     }
 
-    #[tactic(auto, unfolding(crate::specs::Pool::state_of, crate::specs::Step::step, crate::specs::Step::allowance, crate::specs::Step::undecided, crate::specs::Step::looks, pool_script::specs::Form::is_within_form, pool_replies::specs::Replies::is_printable, pool_replies::specs::Refusals::is_printable_refusal))]
+    // Runs a command, whose names are not told of it. What it goes through is made ready first.
     fn answer<F: Ledger, E: Ledger, T: Ledger>(
         &mut self,
         command: &Command,
-        tops: &mut Steps<F>,
-        entry: &mut Steps<E>,
-        touch: &mut Steps<T>,
+        meter: &mut Meter<'_, F, E, T>,
     ) -> Result<Reply, OutOfMemory>
         requires { IsTrue (is_within_form command.now) }
         ensures step { IfOk result (λ reply. steps.step (state_of self.old) command.now ≡ (state_of self.new, reply)) }
         ensures printable { IfOk result (λ reply. IsTrue (is_printable reply)) }
-        ensures cost { tops.new ≤ tops.old + steps.allowance (state_of self.old) command.now }
-        ensures ratio { entry.new + 9216 * tops.old ≤ entry.old + 9216 * tops.new }
-        ensures looks { touch.new ≤ touch.old + steps.looks (state_of self.old) command.now }
+        ensures cost { meter.new.tops.now ≤ meter.old.tops.now + steps.allowance (state_of self.old) command.now }
+        ensures same { IsSame meter.old meter.new }
+        ensures ratio { IsPaid meter.old meter.new }
+        ensures looks { meter.new.touch.now ≤ meter.old.touch.now + steps.looks (state_of self.old) command.now }
+    {
+        self.make_ready(command)?;
+        self.run(command, meter)
+    }
+
+    // Settles the index for a command that searches it, and closes the gaps in the orders for one that goes through them.
+    #[tactic(auto, unfolding(crate::specs::Pool::state_of))]
+    fn make_ready(&mut self, command: &Command) -> Result<(), OutOfMemory>
+        ensures state { state_of self.new ≡ state_of self.old }
+        ensures index { OnOk result (is_search command.now ≡ true
+            → IsIndex self.new.books.ads.index (rows_of (stock_of self.new.books.ads.store))) }
     {
         match command {
-            Command::Clock(n) => self.clock(*n, touch),
+            Command::Query(_) | Command::Gang(_) | Command::Negotiate => self.books.settle(),
+            Command::List | Command::Jobs | Command::Users | Command::Why(_) | Command::Classes => {
+                self.books.settle_order();
+                Ok(())
+            }
+            _ => Ok(()),
+        }
+    }
+
+    // Runs a command over what is ready for it.
+    #[tactic(auto, unfolding(crate::specs::Pool::state_of, crate::specs::Step::step, crate::specs::Step::allowance, crate::specs::Step::undecided, crate::specs::Step::looks, pool_script::specs::Form::is_within_form, pool_replies::specs::Replies::is_printable, pool_replies::specs::Refusals::is_printable_refusal))]
+    fn run<F: Ledger, E: Ledger, T: Ledger>(
+        &mut self,
+        command: &Command,
+        meter: &mut Meter<'_, F, E, T>,
+    ) -> Result<Reply, OutOfMemory>
+        requires form { IsTrue (is_within_form command.now) }
+        requires index { is_search command.now ≡ true
+            → IsIndex self.old.books.ads.index (rows_of (stock_of self.old.books.ads.store)) }
+        ensures step { IfOk result (λ reply. steps.step (state_of self.old) command.now ≡ (state_of self.new, reply)) }
+        ensures printable { IfOk result (λ reply. IsTrue (is_printable reply)) }
+        ensures cost { meter.new.tops.now ≤ meter.old.tops.now + steps.allowance (state_of self.old) command.now }
+        ensures same { IsSame meter.old meter.new }
+        ensures ratio { IsPaid meter.old meter.new }
+        ensures looks { meter.new.touch.now ≤ meter.old.touch.now + steps.looks (state_of self.old) command.now }
+    {
+        let alloc = self.alloc;
+        let moment = self.moment;
+        match command {
+            Command::Clock(n) => self.clock(*n, meter.touch),
             Command::Advertise {
                 name,
                 lifetime,
                 block,
-            } => advertise(
-                self.alloc,
-                &mut self.books,
-                self.moment,
-                name,
-                *lifetime,
-                block.bytes(),
-                touch,
-            ),
-            Command::Withdraw(name) => withdraw(&mut self.books, name, touch),
-            _ => self.answer_for_jobs(command, tops, entry, touch),
-        }
-    }
-
-    // Runs a command that leaves the ads as they are.
-    #[tactic(auto, unfolding(crate::specs::Pool::state_of, crate::specs::Step::step, crate::specs::Step::allowance, crate::specs::Step::undecided, crate::specs::Step::looks, pool_script::specs::Form::is_within_form, pool_replies::specs::Replies::is_printable, pool_replies::specs::Refusals::is_printable_refusal))]
-    fn answer_for_jobs<F: Ledger, E: Ledger, T: Ledger>(
-        &mut self,
-        command: &Command,
-        tops: &mut Steps<F>,
-        entry: &mut Steps<E>,
-        touch: &mut Steps<T>,
-    ) -> Result<Reply, OutOfMemory>
-        requires form { IsTrue (is_within_form command.now) }
-        requires kept { IsTrue (keeps_ads command.now) }
-        ensures step { IfOk result (λ reply. steps.step (state_of self.old) command.now ≡ (state_of self.new, reply)) }
-        ensures printable { IfOk result (λ reply. IsTrue (is_printable reply)) }
-        ensures cost { tops.new ≤ tops.old + steps.allowance (state_of self.old) command.now }
-        ensures ratio { entry.new + 9216 * tops.old ≤ entry.old + 9216 * tops.new }
-        ensures looks { touch.new ≤ touch.old + steps.looks (state_of self.old) command.now }
-    {
-        match command {
-            Command::Submit { job, user, block } => {
-                submit(self.alloc, &mut self.books, job, user, block.bytes())
+            } => {
+                let advertisement = Advertisement {
+                    name,
+                    lifetime: *lifetime,
+                    block: block.bytes(),
+                };
+                advertise(alloc, &mut self.books, moment, advertisement, meter.touch)
             }
+            Command::Withdraw(name) => withdraw(&mut self.books, name, meter.touch),
+            Command::Show(name) => show(alloc, &self.books.ads.store, name.bytes(), meter.touch),
+            Command::List => list(alloc, &self.books),
+            Command::Eval(expr) => eval(alloc, moment, expr.bytes(), meter.tops, meter.entry),
+            Command::EvalIn { name, expr } => eval_in(
+                alloc,
+                &self.books,
+                moment,
+                name.bytes(),
+                expr.bytes(),
+                meter,
+            ),
+            Command::Query(block) => query(alloc, &self.books.ads, moment, block.bytes(), meter),
+            Command::Submit { job, user, block } => submit(
+                alloc,
+                &mut self.books,
+                job,
+                user,
+                block.bytes(),
+            ),
             Command::Remove(job) => remove(&mut self.books, job),
             Command::Priority { user, n } => set_priority(&mut self.priorities, user, *n),
+            Command::Gang(block) => gang(
+                alloc,
+                &self.books,
+                &self.priorities,
+                moment,
+                block.bytes(),
+                meter,
+            ),
+            Command::Negotiate => negotiate(
+                alloc,
+                &mut self.books,
+                &self.priorities,
+                moment,
+                meter,
+            ),
             Command::Claim(job) => claim(
-                self.alloc,
+                alloc,
                 &mut self.books,
                 &self.priorities,
                 job,
-                self.moment,
-                tops,
-                entry,
-                touch,
+                moment,
+                meter,
             ),
             Command::Release(job) => release(&mut self.books, job),
-            Command::Query(_) | Command::Gang(_) | Command::Negotiate => {
-                self.books.settle()?;
-                self.search(command, tops, entry, touch)
-            }
-            Command::List | Command::Jobs | Command::Users | Command::Why(_) | Command::Classes => {
-                self.books.settle_order();
-                self.tell(command, tops, entry, touch)
-            }
-            _ => self.tell(command, tops, entry, touch),
-        }
-    }
-
-    // Runs a command that looks for ads, by the index.
-    #[tactic(auto, unfolding(crate::specs::Pool::state_of, crate::specs::Step::step, crate::specs::Step::allowance, crate::specs::Step::undecided, crate::specs::Step::looks, pool_script::specs::Form::is_within_form, pool_replies::specs::Replies::is_printable, pool_replies::specs::Refusals::is_printable_refusal))]
-    fn search<F: Ledger, E: Ledger, T: Ledger>(
-        &mut self,
-        command: &Command,
-        tops: &mut Steps<F>,
-        entry: &mut Steps<E>,
-        touch: &mut Steps<T>,
-    ) -> Result<Reply, OutOfMemory>
-        requires form { IsTrue (is_within_form command.now) }
-        requires searches { IsTrue (is_search command.now) }
-        requires index { IsIndex self.old.books.ads.index (rows_of (stock_of self.old.books.ads.store)) }
-        ensures step { IfOk result (λ reply. steps.step (state_of self.old) command.now ≡ (state_of self.new, reply)) }
-        ensures printable { IfOk result (λ reply. IsTrue (is_printable reply)) }
-        ensures cost { tops.new ≤ tops.old + steps.allowance (state_of self.old) command.now }
-        ensures ratio { entry.new + 9216 * tops.old ≤ entry.old + 9216 * tops.new }
-        ensures looks { touch.new ≤ touch.old + steps.looks (state_of self.old) command.now }
-    {
-        match command {
-            Command::Query(block) => query(
-                self.alloc,
-                &self.books.ads,
-                self.moment,
-                block.bytes(),
-                tops,
-                entry,
-                touch,
-            ),
-            Command::Gang(block) => gang(
-                self.alloc,
-                &self.books,
-                &self.priorities,
-                self.moment,
-                block.bytes(),
-                tops,
-                entry,
-                touch,
-            ),
-            _ => negotiate(
-                self.alloc,
-                &mut self.books,
-                &self.priorities,
-                self.moment,
-                tops,
-                entry,
-                touch,
-            ),
-        }
-    }
-
-    // Runs a command that changes nothing and searches nothing.
-    #[tactic(auto, unfolding(crate::specs::Pool::state_of, crate::specs::Step::step, crate::specs::Step::allowance, crate::specs::Step::undecided, crate::specs::Step::looks, pool_script::specs::Form::is_within_form, pool_replies::specs::Replies::is_printable, pool_replies::specs::Refusals::is_printable_refusal))]
-    fn tell<F: Ledger, E: Ledger, T: Ledger>(
-        &self,
-        command: &Command,
-        tops: &mut Steps<F>,
-        entry: &mut Steps<E>,
-        touch: &mut Steps<T>,
-    ) -> Result<Reply, OutOfMemory>
-        requires form { IsTrue (is_within_form command.now) }
-        requires kept { IsTrue (changes_nothing command.now) }
-        requires other { is_search command.now ≡ false }
-        ensures step { IfOk result (λ reply. steps.step (state_of self.now) command.now ≡ (state_of self.now, reply)) }
-        ensures printable { IfOk result (λ reply. IsTrue (is_printable reply)) }
-        ensures cost { tops.new ≤ tops.old + steps.allowance (state_of self.now) command.now }
-        ensures ratio { entry.new + 9216 * tops.old ≤ entry.old + 9216 * tops.new }
-        ensures looks { touch.new ≤ touch.old + steps.looks (state_of self.now) command.now }
-    {
-        let alloc = self.alloc;
-        let store = &self.books.ads.store;
-        match command {
-            Command::Show(name) => show(alloc, store, name.bytes(), touch),
-            Command::List => list(alloc, &self.books),
-            Command::Eval(expr) => eval(alloc, self.moment, expr.bytes(), tops, entry),
-            Command::EvalIn { name, expr } => eval_in(
-                alloc,
-                store,
-                self.moment,
-                name.bytes(),
-                expr.bytes(),
-                tops,
-                entry,
-                touch,
-            ),
             Command::Jobs => jobs(alloc, &self.books),
-            Command::Job(name) => show_job(alloc, &self.books, name.bytes()),
+            Command::Job(job) => show_job(alloc, &self.books, job.bytes()),
             Command::Users => users(alloc, &self.books, &self.priorities),
-            Command::Why(job) => explain(
-                alloc,
-                &self.books,
-                self.moment,
-                job.bytes(),
-                tops,
-                entry,
-                touch,
-            ),
-            Command::Classes => classify(alloc, &self.books, touch),
-            Command::Bad(number) => Ok(Reply::Refused(Refusal::Line(*number))),
+            Command::Why(job) => explain(alloc, &self.books, moment, job.bytes(), meter),
+            Command::Classes => classify(alloc, &self.books, meter.touch),
             // A pool alone knows no mailbox.
-            _ => Ok(Reply::Refused(Refusal::UnknownName)),
+            Command::Unlisten(_) => Ok(Reply::Refused(Refusal::UnknownName)),
+            Command::Bad(number) => Ok(Reply::Refused(Refusal::Line(*number))),
         }
     }
 

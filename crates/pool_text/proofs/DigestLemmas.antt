@@ -1,8 +1,8 @@
 -- Digests of names, word by word.
 use Rattle.std.proofs.Common.{refl, arith, ◌≡◌, ◌≤◌, ◌<◌, ℕ, ◌+◌, ◌-◌, ◌*◌, ◌%◌, ◌^◌, List, [], ◌∷◌, length, take, drop, get_or, cond, nat_lt, ap, sym, ◌∙◌}
-use Rattle.std.proofs.Common.{inl, inr, mod-lt}
+use Rattle.std.proofs.Common.{inl, inr, map, mod-lt, subst}
 use Rattle.std.specs.Char.{to_ascii_lowercase}
-use Rattle.std.specs.Int.{w64, from_be_bytes}
+use Rattle.std.specs.Int.{w32, w64, from_be_bytes}
 use Rattle.std.proofs.lemmas.Bool.{cases_lt, le-ltb}
 use Rattle.std.proofs.lemmas.List.{take_all}
 use Rattle.pool_text.specs.Folding.{folded}
@@ -29,11 +29,32 @@ word-more w (b ∷ bytes) h =
     let all : take (length (b ∷ bytes) - 1) bytes ≡ bytes = take_all _ bytes (omega arith) in
     rw (all, letter-small b) refl
 
+-- four letters more, of a word that none stand before
+joined : (p q r s : ℕ) → from_be_bytes w32 (p ∷ q ∷ r ∷ s ∷ []) < 2 ^ 32
+    → from_be_bytes w32 (p ∷ q ∷ r ∷ s ∷ [])
+    ≡ (((((((0 * 256) % (2 ^ 64) + p) % (2 ^ 64) * 256) % (2 ^ 64) + q) % (2 ^ 64) * 256) % (2 ^ 64) + r) % (2 ^ 64) * 256 % (2 ^ 64) + s) % (2 ^ 64)
+joined p q r s fits = omega arith
+
+pub word-half : (bytes : List ℕ) → 4 ≤ length bytes → from_be_bytes w32 (map letter (take 4 bytes)) < 2 ^ 32
+    → word_from (from_be_bytes w32 (map letter (take 4 bytes))) (folded (take (length bytes - 4) (drop 4 bytes))) ≡ word_from 0 (folded bytes)
+word-half [] few fits = absurd (omega (arith, few))
+word-half (a ∷ []) few fits = absurd (omega (arith, few))
+word-half (a ∷ b ∷ []) few fits = absurd (omega (arith, few))
+word-half (a ∷ b ∷ c ∷ []) few fits = absurd (omega (arith, few))
+word-half (a ∷ b ∷ c ∷ d ∷ bytes) few fits =
+    let all : take (length (a ∷ b ∷ c ∷ d ∷ bytes) - 4) bytes ≡ bytes = take_all _ bytes (omega arith) in
+    let small : map letter (a ∷ b ∷ c ∷ d ∷ []) ≡ map letter (folded (a ∷ b ∷ c ∷ d ∷ [])) =
+    rw (letter-small a, letter-small b, letter-small c, letter-small d) refl in
+    let fits_small = subst (λ (ls : List ℕ). from_be_bytes w32 ls < 2 ^ 32) small fits in
+    ap (λ (bs : List ℕ). word_from (from_be_bytes w32 (map letter (a ∷ b ∷ c ∷ d ∷ []))) (folded bs)) all
+    ∙ ap (λ (ls : List ℕ). word_from (from_be_bytes w32 ls) (folded bytes)) small
+    ∙ ap (λ (w : ℕ). word_from w (folded bytes))
+    (joined (letter (to_ascii_lowercase a)) (letter (to_ascii_lowercase b)) (letter (to_ascii_lowercase c)) (letter (to_ascii_lowercase d)) fits_small)
+
 -- one word more of a digest
 pub digest-more : (h : ℕ) (bytes : List ℕ) → 8 ≤ length bytes
-    → digest_from (stirred h (from_be_bytes w64 (letter (get_or bytes 0 0) ∷ letter (get_or bytes 1 0) ∷ letter (get_or bytes 2 0) ∷ letter (get_or bytes 3 0)
-    ∷ letter (get_or bytes 4 0) ∷ letter (get_or bytes 5 0) ∷ letter (get_or bytes 6 0) ∷ letter (get_or bytes 7 0) ∷ [])))
-    (folded (take (length bytes - 8) (drop 8 bytes))) ≡ digest_from h (folded bytes)
+    → digest_from (stirred h (from_be_bytes w64 (map letter (take 8 bytes)))) (folded (take (length bytes - 8) (drop 8 bytes)))
+    ≡ digest_from h (folded bytes)
 unfolding digest_from
 digest-more h [] few = absurd (omega (arith, few))
 digest-more h (a ∷ []) few = absurd (omega (arith, few))

@@ -1,7 +1,16 @@
 // Digests of names, by which attributes are found.
-ghost use Rattle.std.specs.Prelude.{◌≡◌};
+ghost use Rattle.std.specs.Prelude.{◌≡◌, ◌≤◌, length, map, take};
+ghost use Rattle.std.specs.Int.{w32, w64, from_be_bytes};
 ghost use Rattle.pool_text.specs.Folding.{folded};
-ghost use Rattle.pool_text.specs.Digests.{name_digest, word_from, stirred};
+ghost use Rattle.pool_text.specs.Digests.{letter, name_digest, word_from, stirred};
+
+use std::simd::prelude::*;
+
+/// So many letters make a word of a digest.
+const WORD: usize = 8;
+
+/// And so many half of one.
+const HALF: usize = 4;
 
 /// With a small multiplier, names of one digest are found by hand.
 const MULTIPLIER: u64 = 6_364_136_223_846_793_005;
@@ -15,19 +24,9 @@ pub fn name_digest(name: &[u8]) -> u64
 {
     let mut digest: u64 = 0;
     let mut rest = name;
-    while let [a, b, c, d, e, f, g, h, behind @ ..] = rest {
-        let letters = [
-            *a | SMALL,
-            *b | SMALL,
-            *c | SMALL,
-            *d | SMALL,
-            *e | SMALL,
-            *f | SMALL,
-            *g | SMALL,
-            *h | SMALL,
-        ];
-        digest = stir(digest, u64::from_be_bytes(letters));
-        rest = behind;
+    while rest.len() >= WORD {
+        digest = stir(digest, whole_word(rest));
+        rest = &rest[WORD..];
     }
     stir(digest, word_of(rest))
 }
@@ -43,12 +42,41 @@ fn stir(digest: u64, word: u64) -> u64
     low.wrapping_add(high)
 }
 
+// The first eight letters as a number, the last lowest. They are read at once.
+#[inline(always)]
+fn whole_word(letters: &[u8]) -> u64
+    requires { 8 ≤ length letters.now }
+    ensures { result ≡ from_be_bytes w64 (map letter (take 8 letters.now)) }
+{
+    u64::from_be_bytes((u8x8::from_slice(letters) | u8x8::splat(SMALL)).to_array())
+}
+
+// The first four, likewise.
+#[inline(always)]
+fn half_word(letters: &[u8]) -> u32
+    requires { 4 ≤ length letters.now }
+    ensures { result ≡ from_be_bytes w32 (map letter (take 4 letters.now)) }
+{
+    u32::from_be_bytes((u8x4::from_slice(letters) | u8x4::splat(SMALL)).to_array())
+}
+
 // A few letters as a number, the last lowest.
 #[inline(always)]
 fn word_of(letters: &[u8]) -> u64
     ensures { result ≡ word_from 0 (folded letters.now) }
 {
-    let mut word: u64 = 0;
+    if letters.len() < HALF {
+        return word_with(0, letters);
+    }
+    word_with(u64::from(half_word(letters)), &letters[HALF..])
+}
+
+// The number of a few letters behind those that gave a number.
+#[inline(always)]
+fn word_with(first: u64, letters: &[u8]) -> u64
+    ensures { result ≡ word_from first (folded letters.now) }
+{
+    let mut word = first;
     let mut rest = letters;
     while let [letter, behind @ ..] = rest {
         word = word

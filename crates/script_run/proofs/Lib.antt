@@ -1,5 +1,6 @@
 mod Cases
 pub mod EndLemmas
+pub mod MeterLemmas
 pub mod ReadingLemmas
 pub mod RulesLemmas
 mod RunningLemmas

@@ -1,10 +1,11 @@
 // The run of an input over a machine.
-ghost use Rattle.std.specs.Prelude.{◌≡◌, ◌≢◌, ◌↔◌, ◌+◌, ◌-◌, ◌*◌, ◌^◌, ◌≤◌, ◌<◌, ◌++◌, ℕ, List, [], true, false, length, IfErr, IfNone, IfOk, IfSome, IsTrue};
+ghost use Rattle.std.specs.Prelude.{◌≡◌, ◌≢◌, ◌↔◌, ◌+◌, ◌-◌, ◌^◌, ◌≤◌, ◌<◌, ◌++◌, ℕ, List, [], true, false, length, IfErr, IfNone, IfOk, IfSome, IsTrue};
 ghost use Rattle.std.specs.Prelude.{OnOk};
 ghost use Rattle.pool_io.specs.Flow.{Rose};
+ghost use Rattle.pool_steps.specs.Spent.{IsPaid, IsSame};
 ghost use Rattle.pool_script.specs.Standing.{StandsFor};
 ghost use Rattle.script_run.specs.Answering.{Rests, Stopped, Took, TookOne};
-ghost use Rattle.script_run.specs.Effects.{beside, effects};
+ghost use Rattle.script_run.specs.Effects.{beside_of, effects_of};
 ghost use Rattle.script_run.specs.Ends.{Ends, IsDoneOrOutOfMemory, LeavesAtMost, end_of};
 ghost use Rattle.script_run.specs.Limits.{input_limit};
 ghost use Rattle.script_run.specs.Rules.{text_of};
@@ -13,7 +14,7 @@ use crate::reading::{INPUT_LIMIT, READ_SIZE, read_piece};
 use crate::{Machine, RunEnd};
 use notice_desk::Notices;
 use pool_io::{Sink, Source, write_all};
-use pool_steps::Steps;
+use pool_steps::Meter;
 use std::sync::ledger::Ledger;
 
 /// Reads an input to its end, lets a new machine answer each item as soon as the item has ended, and offers each answer to the
@@ -24,16 +25,15 @@ pub fn run<M: Machine, S: Source, K: Sink, D: Notices, F: Ledger, E: Ledger, T: 
     source: &mut S,
     sink: &mut K,
     desk: &mut D,
-    tops: &mut Steps<F>,
-    entry: &mut Steps<E>,
-    touch: &mut Steps<T>,
+    meter: &mut Meter<'_, F, E, T>,
 ) -> RunEnd
     requires stands { StandsFor M.rules.given (M.held machine.old) [] 0 }
     requires waiting { (M.held machine.old).waiting ≡ [] }
     requires over { (M.held machine.old).over ≡ false }
     ensures ends { Ends M.rules (M.state machine.old (D.shows desk.old)) (S.shows source.old) (S.shows source.new)
-        (effects (K.shows sink.old) tops.old touch.old (D.shows desk.old)) (effects (K.shows sink.new) tops.new touch.new (D.shows desk.new)) result }
-    ensures ratio { entry.new + 9216 * tops.old ≤ entry.old + 9216 * tops.new }
+        (effects_of (K.shows sink.old) meter.old (D.shows desk.old)) (effects_of (K.shows sink.new) meter.new (D.shows desk.new)) result }
+    ensures same { IsSame meter.old meter.new }
+    ensures ratio { IsPaid meter.old meter.new }
     ensures words { result ≢ RunEnd.BadWords }
 
     // With an input within the limit and no fault, all is read and answered, or memory is wanting.
@@ -56,7 +56,7 @@ pub fn run<M: Machine, S: Source, K: Sink, D: Notices, F: Ledger, E: Ledger, T: 
         length (text_of M.rules (M.state machine.old (D.shows desk.old)) (M.rules.given true bytes)) ≤ (K.shows sink.old).sure
         → result ≢ RunEnd.WriteFault) }
 {
-    match answer_input(machine, source, sink, desk, tops, entry, touch) {
+    match answer_input(machine, source, sink, desk, meter) {
         Ok(refused) => RunEnd::Done { refused },
         Err(end) => end,
     }
@@ -68,16 +68,15 @@ fn answer_input<M: Machine, S: Source, K: Sink, D: Notices, F: Ledger, E: Ledger
     source: &mut S,
     sink: &mut K,
     desk: &mut D,
-    tops: &mut Steps<F>,
-    entry: &mut Steps<E>,
-    touch: &mut Steps<T>,
+    meter: &mut Meter<'_, F, E, T>,
 ) -> Result<u64, RunEnd>
     requires stands { StandsFor M.rules.given (M.held machine.old) [] 0 }
     requires waiting { (M.held machine.old).waiting ≡ [] }
     requires over { (M.held machine.old).over ≡ false }
     ensures ends { Ends M.rules (M.state machine.old (D.shows desk.old)) (S.shows source.old) (S.shows source.new)
-        (effects (K.shows sink.old) tops.old touch.old (D.shows desk.old)) (effects (K.shows sink.new) tops.new touch.new (D.shows desk.new)) (end_of result) }
-    ensures ratio { entry.new + 9216 * tops.old ≤ entry.old + 9216 * tops.new }
+        (effects_of (K.shows sink.old) meter.old (D.shows desk.old)) (effects_of (K.shows sink.new) meter.new (D.shows desk.new)) (end_of result) }
+    ensures same { IsSame meter.old meter.new }
+    ensures ratio { IsPaid meter.old meter.new }
     ensures words { result ≢ Err RunEnd.BadWords }
 {
     let mut buffer = [0; READ_SIZE];
@@ -88,22 +87,13 @@ fn answer_input<M: Machine, S: Source, K: Sink, D: Notices, F: Ledger, E: Ledger
             return Err(RunEnd::ReadFault);
         };
         if count == 0 {
-            return answer_end(machine, refused, sink, desk, tops, entry, touch);
+            return answer_end(machine, refused, sink, desk, meter);
         }
-        refused = answer_piece(
-            machine,
-            &buffer[..count],
-            refused,
-            sink,
-            desk,
-            tops,
-            entry,
-            touch,
-        )?;
+        refused = answer_piece(machine, &buffer[..count], refused, sink, desk, meter)?;
         left -= count;
     }
     match read_piece(source, &mut buffer, 1) {
-        Ok(0) => answer_end(machine, refused, sink, desk, tops, entry, touch),
+        Ok(0) => answer_end(machine, refused, sink, desk, meter),
         Ok(_) => Err(RunEnd::TooLong),
         Err(_) => Err(RunEnd::ReadFault),
     }
@@ -116,27 +106,26 @@ fn answer_piece<M: Machine, K: Sink, D: Notices, F: Ledger, E: Ledger, T: Ledger
     refused: u64,
     sink: &mut K,
     desk: &mut D,
-    tops: &mut Steps<F>,
-    entry: &mut Steps<E>,
-    touch: &mut Steps<T>,
+    meter: &mut Meter<'_, F, E, T>,
 ) -> Result<u64, RunEnd>
     requires over { (M.held machine.old).over ≡ false }
     requires waiting { (M.held machine.old).waiting ≡ [] }
     requires room { refused + length (M.rules.given false ((M.held machine.old).rest ++ piece.now)) < 2 ^ 64 }
     ensures took { IfOk result (Took M.rules (M.state machine.old (D.shows desk.old)) (M.state machine.new (D.shows desk.new))
-        (effects (K.shows sink.old) tops.old touch.old (D.shows desk.old)) (effects (K.shows sink.new) tops.new touch.new (D.shows desk.new))
+        (effects_of (K.shows sink.old) meter.old (D.shows desk.old)) (effects_of (K.shows sink.new) meter.new (D.shows desk.new))
         (M.rules.given false ((M.held machine.old).rest ++ piece.now)) refused) }
     ensures stopped { IfErr result (Stopped M.rules (M.state machine.old (D.shows desk.old))
-        (effects (K.shows sink.old) tops.old touch.old (D.shows desk.old)) (effects (K.shows sink.new) tops.new touch.new (D.shows desk.new))
+        (effects_of (K.shows sink.old) meter.old (D.shows desk.old)) (effects_of (K.shows sink.new) meter.new (D.shows desk.new))
         (M.rules.given false ((M.held machine.old).rest ++ piece.now))) }
-    ensures ratio { entry.new + 9216 * tops.old ≤ entry.old + 9216 * tops.new }
+    ensures same { IsSame meter.old meter.new }
+    ensures ratio { IsPaid meter.old meter.new }
     ensures waiting { OnOk result ((M.held machine.new).waiting ≡ []) }
     ensures over { OnOk result ((M.held machine.new).over ≡ false) }
     ensures stands { OnOk result ((bytes : List ℕ) (n : ℕ) → StandsFor M.rules.given (M.held machine.old) bytes n
         → (m : ℕ) × StandsFor M.rules.given (M.held machine.new) (bytes ++ piece.now) m) }
 {
     machine.feed(piece)?;
-    answer_waiting(machine, refused, sink, desk, tops, entry, touch)
+    answer_waiting(machine, refused, sink, desk, meter)
 }
 
 // Answers the items that the end of the input gives, and tells how many of all were refused.
@@ -145,23 +134,22 @@ fn answer_end<M: Machine, K: Sink, D: Notices, F: Ledger, E: Ledger, T: Ledger>(
     refused: u64,
     sink: &mut K,
     desk: &mut D,
-    tops: &mut Steps<F>,
-    entry: &mut Steps<E>,
-    touch: &mut Steps<T>,
+    meter: &mut Meter<'_, F, E, T>,
 ) -> Result<u64, RunEnd>
     requires over { (M.held machine.old).over ≡ false }
     requires waiting { (M.held machine.old).waiting ≡ [] }
     requires room { refused + length (M.rules.given true (M.held machine.old).rest) < 2 ^ 64 }
     ensures took { IfOk result (Took M.rules (M.state machine.old (D.shows desk.old)) (M.state machine.new (D.shows desk.new))
-        (effects (K.shows sink.old) tops.old touch.old (D.shows desk.old)) (effects (K.shows sink.new) tops.new touch.new (D.shows desk.new))
+        (effects_of (K.shows sink.old) meter.old (D.shows desk.old)) (effects_of (K.shows sink.new) meter.new (D.shows desk.new))
         (M.rules.given true (M.held machine.old).rest) refused) }
     ensures stopped { IfErr result (Stopped M.rules (M.state machine.old (D.shows desk.old))
-        (effects (K.shows sink.old) tops.old touch.old (D.shows desk.old)) (effects (K.shows sink.new) tops.new touch.new (D.shows desk.new))
+        (effects_of (K.shows sink.old) meter.old (D.shows desk.old)) (effects_of (K.shows sink.new) meter.new (D.shows desk.new))
         (M.rules.given true (M.held machine.old).rest)) }
-    ensures ratio { entry.new + 9216 * tops.old ≤ entry.old + 9216 * tops.new }
+    ensures same { IsSame meter.old meter.new }
+    ensures ratio { IsPaid meter.old meter.new }
 {
     machine.end()?;
-    answer_waiting(machine, refused, sink, desk, tops, entry, touch)
+    answer_waiting(machine, refused, sink, desk, meter)
 }
 
 // Answers the items that wait, and tells how many of all were refused.
@@ -170,25 +158,24 @@ fn answer_waiting<M: Machine, K: Sink, D: Notices, F: Ledger, E: Ledger, T: Ledg
     before: u64,
     sink: &mut K,
     desk: &mut D,
-    tops: &mut Steps<F>,
-    entry: &mut Steps<E>,
-    touch: &mut Steps<T>,
+    meter: &mut Meter<'_, F, E, T>,
 ) -> Result<u64, RunEnd>
     requires { before + length (M.held machine.old).waiting < 2 ^ 64 }
     ensures took { IfOk result (Took M.rules (M.state machine.old (D.shows desk.old)) (M.state machine.new (D.shows desk.new))
-        (effects (K.shows sink.old) tops.old touch.old (D.shows desk.old)) (effects (K.shows sink.new) tops.new touch.new (D.shows desk.new))
+        (effects_of (K.shows sink.old) meter.old (D.shows desk.old)) (effects_of (K.shows sink.new) meter.new (D.shows desk.new))
         (M.held machine.old).waiting before) }
     ensures stopped { IfErr result (Stopped M.rules (M.state machine.old (D.shows desk.old))
-        (effects (K.shows sink.old) tops.old touch.old (D.shows desk.old)) (effects (K.shows sink.new) tops.new touch.new (D.shows desk.new))
+        (effects_of (K.shows sink.old) meter.old (D.shows desk.old)) (effects_of (K.shows sink.new) meter.new (D.shows desk.new))
         (M.held machine.old).waiting) }
-    ensures ratio { entry.new + 9216 * tops.old ≤ entry.old + 9216 * tops.new }
+    ensures same { IsSame meter.old meter.new }
+    ensures ratio { IsPaid meter.old meter.new }
     ensures waiting { OnOk result ((M.held machine.new).waiting ≡ []) }
     ensures over { (M.held machine.new).over ≡ (M.held machine.old).over }
     ensures stands { (bytes : List ℕ) (n : ℕ) → StandsFor M.rules.given (M.held machine.old) bytes n
         → (m : ℕ) × StandsFor M.rules.given (M.held machine.new) bytes m }
 {
     let mut refused = before;
-    while let Some(refusals) = answer_one(machine, sink, desk, tops, entry, touch)? {
+    while let Some(refusals) = answer_one(machine, sink, desk, meter)? {
         refused += refusals;
     }
     Ok(refused)
@@ -199,25 +186,24 @@ fn answer_one<M: Machine, K: Sink, D: Notices, F: Ledger, E: Ledger, T: Ledger>(
     machine: &mut M,
     sink: &mut K,
     desk: &mut D,
-    tops: &mut Steps<F>,
-    entry: &mut Steps<E>,
-    touch: &mut Steps<T>,
+    meter: &mut Meter<'_, F, E, T>,
 ) -> Result<Option<u64>, RunEnd>
     ensures took { IfOk result (λ count. IfSome count (TookOne M.rules (M.held machine.old).waiting (M.held machine.new).waiting
         (M.state machine.old (D.shows desk.old)) (M.state machine.new (D.shows desk.new))
-        (effects (K.shows sink.old) tops.old touch.old (D.shows desk.old)) (effects (K.shows sink.new) tops.new touch.new (D.shows desk.new)))) }
+        (effects_of (K.shows sink.old) meter.old (D.shows desk.old)) (effects_of (K.shows sink.new) meter.new (D.shows desk.new)))) }
     ensures none { IfOk result (λ count. IfNone count (Rests M.rules (M.held machine.old).waiting (M.held machine.new).waiting
         (M.state machine.old (D.shows desk.old)) (M.state machine.new (D.shows desk.new))
-        (beside tops.old touch.old (D.shows desk.old)) (beside tops.new touch.new (D.shows desk.new)) × (sink.new ≡ sink.old))) }
+        (beside_of meter.old (D.shows desk.old)) (beside_of meter.new (D.shows desk.new)) × (sink.new ≡ sink.old))) }
     ensures stopped { IfErr result (Stopped M.rules (M.state machine.old (D.shows desk.old))
-        (effects (K.shows sink.old) tops.old touch.old (D.shows desk.old)) (effects (K.shows sink.new) tops.new touch.new (D.shows desk.new))
+        (effects_of (K.shows sink.old) meter.old (D.shows desk.old)) (effects_of (K.shows sink.new) meter.new (D.shows desk.new))
         (M.held machine.old).waiting) }
-    ensures ratio { entry.new + 9216 * tops.old ≤ entry.old + 9216 * tops.new }
+    ensures same { IsSame meter.old meter.new }
+    ensures ratio { IsPaid meter.old meter.new }
     ensures over { (M.held machine.new).over ≡ (M.held machine.old).over }
     ensures stands { (bytes : List ℕ) (n : ℕ) → StandsFor M.rules.given (M.held machine.old) bytes n
         → (m : ℕ) × StandsFor M.rules.given (M.held machine.new) bytes m }
 {
-    let Some(answer) = machine.answer(desk, tops, entry, touch)? else {
+    let Some(answer) = machine.answer(desk, meter)? else {
         return Ok(None);
     };
     let refusals = answer.refusals;

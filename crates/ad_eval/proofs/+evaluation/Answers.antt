@@ -1,4 +1,4 @@
-use Rattle.std.proofs.Common.{◌≡◌, ◌≤◌, ◌+◌, ℕ, true, false, List, [], ◌∷◌, ◌++◌, length, drop, Some, Err, option_map, max, arith, refl, ap, sym, ◌∙◌, subst}
+use Rattle.std.proofs.Common.{◌≡◌, ◌≤◌, ◌<◌, ◌+◌, ℕ, true, false, List, [], ◌∷◌, ◌++◌, length, drop, Some, Err, option_map, max, arith, refl, ap, sym, ◌∙◌, subst}
 use Rattle.std.specs.Option.{option_and_then}
 use Rattle.ad_tree.specs.Tree.{Tree, Trees, pack, size, size_all, tree, trees, three}
 use Rattle.ad_tree.proofs.TreeLemmas.{size-positive, size-at}
@@ -6,7 +6,7 @@ use Rattle.ad_value.specs.Plain.{Plain, boolean, plain, plain_of_lit, plains}
 use Rattle.ad_value.specs.Operators.{binary_value, unary_value}
 use Rattle.ad_value.specs.Demands.{all_demanded, chosen, conjunction, disjunction, list_value, selected, subscripted}
 use Rattle.cycle_guard.specs.Sights.{pending}
-use Rattle.eval_scope.specs.World.{frame_of_attribute}
+use Rattle.eval_scope.specs.World.{PlainWorld, expr_of, frame_of_attribute, literal_of}
 use Rattle.ad_eval.specs.declared.outcome.Outcome.{Outcome}
 use Rattle.ad_eval.specs.declared.stop.Stop.{Stop}
 use Rattle.ad_eval.specs.declared.reference.Reference.{Reference}
@@ -31,8 +31,9 @@ use Rattle.ad_eval.proofs.SceneLemmas.{in_all, in_any, in_binary, in_call, in_ch
 use Rattle.builtin_funcs.specs.Calls.{is_known}
 use Rattle.ad_eval.proofs.ChainLemmas.{all_demanded-from, called-choice, called-function, called-unknown, conditional-three, conditional-wrong, chained-decided}
 use Rattle.ad_eval.proofs.ChainLemmas.{chained-end, chained-from, listed-end, listed-from, pack-three, values-end}
-use Rattle.ad_eval.proofs.EnterLemmas.{answer_there_none, answer_there_some, counts_entered, counts_equal, counts_kept, counts_there, inner_work, keeps}
+use Rattle.ad_eval.proofs.EnterLemmas.{answer_there_none, answer_there_some, answers_literal, counts_entered, counts_equal, counts_kept, counts_there, inner_work, keeps}
 use Rattle.ad_eval.proofs.EnterLemmas.{ready_there, recalls, world_has, world_there}
+use Rattle.ad_eval.proofs.TopLemmas.{scene_world}
 use Rattle.ad_eval.proofs.+evaluation.Goals as goal
 
 pub evaluation::evaluate-returns-in-Literal : goal.evaluation::evaluate-returns-in-Literal
@@ -992,20 +993,35 @@ evaluation::follow-returns-in-Value g t c =
       counted = counts_same w n0 g0;
     }
 
-pub evaluation::attribute-enter-requires : goal.evaluation::attribute-enter-requires
-evaluation::attribute-enter-requires g t c κs within =
+pub evaluation::attribute-literal_at-requires : goal.evaluation::attribute-literal_at-requires
+evaluation::attribute-literal_at-requires g t c =
+    world_there c.args.scene.now c.args.pos c.requires.there
+
+pub evaluation::attribute-returns-in-Some-clause-answer : goal.evaluation::attribute-returns-in-Some-clause-answer
+evaluation::attribute-returns-in-Some-clause-answer g t c =
+    let s = c.args.scene.now in
+    let some : 0 < s.left = omega arith in
+    let is = ap (λ (w : PlainWorld). literal_of (expr_of w c.args.pos)) (scene_world s) ∙ sym c.in-Some.ensures in
+    answers_literal (world_in s) s.left c.args.pos c.args.guard.now c.in-Some.lit.now c.literal.result some c.requires.ready is c.literal.ensures
+
+pub evaluation::attribute-returns-in-Some-clause-counted : goal.evaluation::attribute-returns-in-Some-clause-counted
+evaluation::attribute-returns-in-Some-clause-counted g t c =
+    counts_same (world_in c.args.scene.now) c.args.entry.now c.args.guard.now
+
+pub evaluation::known-enter-requires : goal.evaluation::known-enter-requires
+evaluation::known-enter-requires g t c κs within =
     let s = c.args.scene.now in
     let w = world_in s in
     let g0 = c.args.guard.now in
     let n0 = c.args.entry.now in
     (omega (arith, c.decreases), (within, (c.requires.there, (sym c.in-Unseen.ensures, c.requires.ready))))
 
-pub evaluation::attribute-returns-in-Unseen : goal.evaluation::attribute-returns-in-Unseen
-evaluation::attribute-returns-in-Unseen g t c =
+pub evaluation::known-returns-in-Unseen : goal.evaluation::known-returns-in-Unseen
+evaluation::known-returns-in-Unseen g t c =
     record { answer = c.enter.ensures.answer; counted = c.enter.ensures.counted }
 
-pub evaluation::attribute-returns-in-Pending : goal.evaluation::attribute-returns-in-Pending
-evaluation::attribute-returns-in-Pending g t c =
+pub evaluation::known-returns-in-Pending : goal.evaluation::known-returns-in-Pending
+evaluation::known-returns-in-Pending g t c =
     let s = c.args.scene.now in
     let w = world_in s in
     let g0 = c.args.guard.now in
@@ -1015,8 +1031,8 @@ evaluation::attribute-returns-in-Pending g t c =
     let ready = ready_is w g0 f c.requires.ready in
     record { answer = stops_by w f s.left g0 g0 Stop.References (λ is. circle w g0 pos (sym c.in-Pending.ensures) ready s.left); counted = counts_same w n0 g0 }
 
-pub evaluation::attribute-returns-in-Done : goal.evaluation::attribute-returns-in-Done
-evaluation::attribute-returns-in-Done g t c =
+pub evaluation::known-returns-in-Done : goal.evaluation::known-returns-in-Done
+evaluation::known-returns-in-Done g t c =
     let s = c.args.scene.now in
     let w = world_in s in
     let g0 = c.args.guard.now in

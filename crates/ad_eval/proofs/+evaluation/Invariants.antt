@@ -16,10 +16,13 @@ abbrev pub decreases-evaluation::evaluate : goal.decreases-evaluation::evaluate
 decreases-evaluation::evaluate g l = 8 * (l.scene.now.left * turn (world_in l.scene.now)) + 8 * size (tree l.expr.now)
 
 abbrev pub decreases-evaluation::follow : goal.decreases-evaluation::follow
-decreases-evaluation::follow g l = 8 * (l.scene.now.left * turn (world_in l.scene.now)) + 3
+decreases-evaluation::follow g l = 8 * (l.scene.now.left * turn (world_in l.scene.now)) + 4
 
 abbrev pub decreases-evaluation::attribute : goal.decreases-evaluation::attribute
-decreases-evaluation::attribute g l = 8 * (l.scene.now.left * turn (world_in l.scene.now)) + 2
+decreases-evaluation::attribute g l = 8 * (l.scene.now.left * turn (world_in l.scene.now)) + 3
+
+abbrev pub decreases-evaluation::known : goal.decreases-evaluation::known
+decreases-evaluation::known g l = 8 * (l.scene.now.left * turn (world_in l.scene.now)) + 2
 
 abbrev pub decreases-evaluation::enter : goal.decreases-evaluation::enter
 decreases-evaluation::enter g l = 8 * (l.scene.now.left * turn (world_in l.scene.now)) + 1
@@ -31,10 +34,10 @@ abbrev pub decreases-operands::binary_operation : goal.decreases-operands::binar
 decreases-operands::binary_operation g l = 8 * (l.scene.now.left * turn (world_in l.scene.now)) + (8 * (size (tree l.a.now) + size (tree l.b.now)) + 4)
 
 abbrev pub decreases-operands::selection : goal.decreases-operands::selection
-decreases-operands::selection g l = 8 * (l.scene.now.left * turn (world_in l.scene.now)) + (8 * size (tree l.base.now) + 4)
+decreases-operands::selection g l = 8 * (l.scene.now.left * turn (world_in l.scene.now)) + (8 * size (tree l.base.now) + 5)
 
 abbrev pub decreases-operands::subscription : goal.decreases-operands::subscription
-decreases-operands::subscription g l = 8 * (l.scene.now.left * turn (world_in l.scene.now)) + (8 * (size (tree l.base.now) + size (tree l.index.now)) + 4)
+decreases-operands::subscription g l = 8 * (l.scene.now.left * turn (world_in l.scene.now)) + (8 * (size (tree l.base.now) + size (tree l.index.now)) + 5)
 
 abbrev pub decreases-chains::list_literal : goal.decreases-chains::list_literal
 decreases-chains::list_literal g l = 8 * (l.scene.now.left * turn (world_in l.scene.now)) + (8 * size_all (pack (trees l.items.now)) + 2)

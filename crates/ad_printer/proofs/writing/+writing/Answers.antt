@@ -44,9 +44,9 @@ write_row-write_part-requires-in-loop-i t c =
 
 pub write_row-loop-i-preserved : goal.write_row-loop-i-preserved
 write_row-loop-i-preserved t c =
-    row_step (ad_frames c.args.ad.now) c.args.turns (blank c.args.between.now ∷ []) c.args.other (trees c.args.list.now) c.loop-i.i
+    row_step (ad_frames c.args.ad.now) c.args.turns (blank c.args.divider.between.now ∷ []) c.args.divider.other (trees c.args.list.now) c.loop-i.i
     (tree c.at-in-loop-i.result.now) c.loop-i.out.items c.add_few.new.out.items c.write_part-in-loop-i.new.out.items _
-    c.at-in-loop-i.ensures (c.in_ok-add_few.ensures ∙ ap (λ bytes. c.loop-i.out.items ++ bytes) (sym (append-nil c.args.between.now)))
+    c.at-in-loop-i.ensures (c.in_ok-add_few.ensures ∙ ap (λ bytes. c.loop-i.out.items ++ bytes) (sym (append-nil c.args.divider.between.now)))
     c.in_ok-write_part-2.ensures c.loop-i.invariant
 
 pub write_definitions-write_definition-requires : goal.write_definitions-write_definition-requires

@@ -59,8 +59,8 @@ decreases-write_definition l = levels l.turns (ad_frames l.ad.now) + 4 * size (t
 
 abbrev pub invariant-write_row-loop-i : goal.invariant-write_row-loop-i
 invariant-write_row-loop-i l =
-    l.out.items ++ rest_of_row (ad_frames l.ad) l.turns (blank l.between ∷ []) l.other (drop l.i (trees l.list))
-    ≡ l.initial.out.items ++ rest_of_row (ad_frames l.ad) l.turns (blank l.between ∷ []) l.other (drop 1 (trees l.list))
+    l.out.items ++ rest_of_row (ad_frames l.ad) l.turns (blank l.divider.between.now ∷ []) l.divider.other (drop l.i (trees l.list))
+    ≡ l.initial.out.items ++ rest_of_row (ad_frames l.ad) l.turns (blank l.divider.between.now ∷ []) l.divider.other (drop 1 (trees l.list))
 
 abbrev pub invariant-write_definitions-loop-attr : goal.invariant-write_definitions-loop-attr
 invariant-write_definitions-loop-attr l =

@@ -18,7 +18,7 @@ returns-in_default-clause-ranks g c =
     let request = request_in c.args.scene.now in
     let ad = ad_frames c.args.ad.now in
     ap (ranks_above c.args.bar) (ranks-decided c.args.scene.now.moment request ad
-    (none-undecided request 0 [] ad (ap (λ ports. open_sides request 0 (labels_of ports) ad) (sym c.requires.single) ∙ sym c.open_sides.ensures
+    (none-undecided request 0 [] ad (ap (λ ports. open_sides request 0 (labels_of ports) ad) (sym c.requires.single) ∙ sym c.open_sides_by_plan.ensures
     ∙ c.in_default.is)))
 
 pub returns-clause-spent : goal.returns-clause-spent
@@ -30,7 +30,7 @@ returns-clause-spent g c =
     let spent = c.ranks_in.ensures.spent in
     let undecided =
     some-undecided request 0 [] ad c.in-Some.sides (ap (λ ports. open_sides request 0 (labels_of ports) ad) (sym c.requires.single)
-    ∙ sym c.open_sides.ensures ∙ c.in-Some.is) in
+    ∙ sym c.open_sides_by_plan.ensures ∙ c.in-Some.is) in
     let world =
     world-is moment request ad c.args.scene.now.request.now.ports (world_of c.new.result) (world_of c.with-world.result) c.new.ensures c.with-world.ensures
     c.requires.single in

@@ -20,27 +20,27 @@ within g c = omega (arith, c.loop-resource-test.true, c.loop-resource.auto.resou
 item-is : (g : Over) (c : After-resource-item g)
     → c.resource-item.result ≡ get_or c.args.resources.now c.loop-resource.resource-index c.resource-item.result
 item-is g c =
-    item-at (weighed_in (world_of c.args.world.now) c.args.before.now) c.args.resources.now c.loop-resource.resources c.loop-resource.resource-index
+    item-at (weighed_in (world_of c.args.prefix.now.world.now) c.args.prefix.now.before.now) c.args.resources.now c.loop-resource.resources c.loop-resource.resource-index
     c.resource-item.result c.resource-item.is c.loop-resource.invariant.kept
 
 -- what weighing it took
-evaluations : (g : Over) (c : After-weigh g) → c.weigh.new.tops ≤ c.loop-resource.tops + evaluations_in c.args.before.now c.resource-item.result
+evaluations : (g : Over) (c : After-weigh g) → c.weigh.new.tops ≤ c.loop-resource.tops + evaluations_in c.args.prefix.now.before.now c.resource-item.result
 evaluations g c =
-    subst (λ (r : Resource). c.weigh.new.tops ≤ c.loop-resource.tops + evaluations_in c.args.before.now r) (sym c.resource-item.is)
+    subst (λ (r : Resource). c.weigh.new.tops ≤ c.loop-resource.tops + evaluations_in c.args.prefix.now.before.now r) (sym c.resource-item.is)
     c.weigh.ensures.evaluations
 
 entries : (g : Over) (c : After-weigh g)
-    → c.weigh.new.entry ≤ c.loop-resource.entry + attributes_of (world_of c.args.world.now) c.args.before.now c.resource-item.result
+    → c.weigh.new.entry ≤ c.loop-resource.entry + attributes_of (world_of c.args.prefix.now.world.now) c.args.prefix.now.before.now c.resource-item.result
 entries g c =
-    subst (λ (r : Resource). c.weigh.new.entry ≤ c.loop-resource.entry + attributes_of (world_of c.args.world.now) c.args.before.now r)
+    subst (λ (r : Resource). c.weigh.new.entry ≤ c.loop-resource.entry + attributes_of (world_of c.args.prefix.now.world.now) c.args.prefix.now.before.now r)
     (sym c.resource-item.is) c.weigh.ensures.entries
 
-ratio : (g : Over) (c : After-weigh g) → AreSmall (world_of c.args.world.now) → AreSmallResources c.args.resources.now
+ratio : (g : Over) (c : After-weigh g) → AreSmall (world_of c.args.prefix.now.world.now) → AreSmallResources c.args.resources.now
     → c.weigh.new.entry + 9216 * c.args.tops.now ≤ c.args.entry.now + 9216 * c.weigh.new.tops
 ratio g c small are =
     let here : c.loop-resource.resource-index < length c.args.resources.now =
     omega (arith, c.loop-resource-test.true, c.loop-resource.auto.resource-index-end, c.loop-resource.auto.resources) in
-    let fits = item-hold HasSmall (weighed_in (world_of c.args.world.now) c.args.before.now) c.args.resources.now c.loop-resource.resources
+    let fits = item-hold HasSmall (weighed_in (world_of c.args.prefix.now.world.now) c.args.prefix.now.before.now) c.args.resources.now c.loop-resource.resources
     c.loop-resource.resource-index c.resource-item.result here c.resource-item.is c.loop-resource.invariant.kept are in
     omega (arith, c.loop-resource.invariant.ratio small are, c.weigh.ensures.ratio small fits)
 
@@ -48,22 +48,22 @@ ratio g c small are =
 
 pub weigh-requires-clause-tests : goal.weigh-requires-clause-tests
 weigh-requires-clause-tests g c =
-    let w = world_of c.args.world.now in
-    item-hold (HasSidesIn w) (weighed_in w c.args.before.now) c.args.resources.now c.loop-resource.resources c.loop-resource.resource-index
+    let w = world_of c.args.prefix.now.world.now in
+    item-hold (HasSidesIn w) (weighed_in w c.args.prefix.now.before.now) c.args.resources.now c.loop-resource.resources c.loop-resource.resource-index
     c.resource-item.result (within g (goal.at.weigh-requires-clause-tests g c).After-resource-item) c.resource-item.is c.loop-resource.invariant.kept
     c.requires.tests
 
 pub returns-in_err-found-clause-evaluations : goal.returns-in_err-found-clause-evaluations
 returns-in_err-found-clause-evaluations g c =
     let p = goal.at.returns-in_err-found-clause-evaluations g c in
-    count-within (evaluations_in c.args.before.now) c.args.resources.now c.loop-resource.resource-index c.args.tops.now c.loop-resource.tops
+    count-within (evaluations_in c.args.prefix.now.before.now) c.args.resources.now c.loop-resource.resource-index c.args.tops.now c.loop-resource.tops
     c.loop-resource.invariant.evaluations c.resource-item.result c.weigh.new.tops (within g p.After-resource-item) (item-is g p.After-resource-item)
     (evaluations g p.After-weigh)
 
 pub returns-in_err-found-clause-entries : goal.returns-in_err-found-clause-entries
 returns-in_err-found-clause-entries g c =
     let p = goal.at.returns-in_err-found-clause-entries g c in
-    count-within (attributes_of (world_of c.args.world.now) c.args.before.now) c.args.resources.now c.loop-resource.resource-index c.args.entry.now
+    count-within (attributes_of (world_of c.args.prefix.now.world.now) c.args.prefix.now.before.now) c.args.resources.now c.loop-resource.resource-index c.args.entry.now
     c.loop-resource.entry c.loop-resource.invariant.entries c.resource-item.result c.weigh.new.entry (within g p.After-resource-item)
     (item-is g p.After-resource-item) (entries g p.After-weigh)
 
@@ -73,14 +73,14 @@ returns-in_err-found-clause-ratio g c = ratio g (goal.at.returns-in_err-found-cl
 pub returns-in_err-keep-clause-evaluations : goal.returns-in_err-keep-clause-evaluations
 returns-in_err-keep-clause-evaluations g c =
     let p = goal.at.returns-in_err-keep-clause-evaluations g c in
-    count-within (evaluations_in c.args.before.now) c.args.resources.now c.loop-resource.resource-index c.args.tops.now c.loop-resource.tops
+    count-within (evaluations_in c.args.prefix.now.before.now) c.args.resources.now c.loop-resource.resource-index c.args.tops.now c.loop-resource.tops
     c.loop-resource.invariant.evaluations c.resource-item.result c.weigh.new.tops (within g p.After-resource-item) (item-is g p.After-resource-item)
     (evaluations g p.After-weigh)
 
 pub returns-in_err-keep-clause-entries : goal.returns-in_err-keep-clause-entries
 returns-in_err-keep-clause-entries g c =
     let p = goal.at.returns-in_err-keep-clause-entries g c in
-    count-within (attributes_of (world_of c.args.world.now) c.args.before.now) c.args.resources.now c.loop-resource.resource-index c.args.entry.now
+    count-within (attributes_of (world_of c.args.prefix.now.world.now) c.args.prefix.now.before.now) c.args.resources.now c.loop-resource.resource-index c.args.entry.now
     c.loop-resource.entry c.loop-resource.invariant.entries c.resource-item.result c.weigh.new.entry (within g p.After-resource-item)
     (item-is g p.After-resource-item) (entries g p.After-weigh)
 
@@ -89,8 +89,8 @@ returns-in_err-keep-clause-ratio g c = ratio g (goal.at.returns-in_err-keep-clau
 
 pub loop-resource-preserved : goal.loop-resource-preserved
 loop-resource-preserved g c =
-    let w = world_of c.args.world.now in
-    let before = c.args.before.now in
+    let w = world_of c.args.prefix.now.world.now in
+    let before = c.args.prefix.now.before.now in
     let start = c.args.resources.now in
     let now = c.loop-resource.resources in
     let i = c.loop-resource.resource-index in
@@ -116,24 +116,24 @@ loop-resource-preserved g c =
 
 pub returns-clause-tries : goal.returns-clause-tries
 returns-clause-tries g c =
-    found-all (candidate_in (world_of c.args.world.now) c.args.before.now) c.args.resources.now c.loop-resource.resource-index
+    found-all (candidate_in (world_of c.args.prefix.now.world.now) c.args.prefix.now.before.now) c.args.resources.now c.loop-resource.resource-index
     c.loop-resource.tries.items (omega (arith, c.loop-resource-test.false, c.loop-resource.auto.resource-index-end, c.loop-resource.auto.resources))
     c.loop-resource.invariant.tries
 
 pub returns-clause-kept : goal.returns-clause-kept
 returns-clause-kept g c =
     c.loop-resource.invariant.kept
-    ∙ front-all (weighed_in (world_of c.args.world.now) c.args.before.now) c.args.resources.now c.loop-resource.resource-index
+    ∙ front-all (weighed_in (world_of c.args.prefix.now.world.now) c.args.prefix.now.before.now) c.args.resources.now c.loop-resource.resource-index
     (omega (arith, c.loop-resource-test.false, c.loop-resource.auto.resource-index-end, c.loop-resource.auto.resources))
 
 pub returns-clause-evaluations : goal.returns-clause-evaluations
 returns-clause-evaluations g c =
-    count-all (evaluations_in c.args.before.now) c.args.resources.now c.loop-resource.resource-index c.args.tops.now c.loop-resource.tops
+    count-all (evaluations_in c.args.prefix.now.before.now) c.args.resources.now c.loop-resource.resource-index c.args.tops.now c.loop-resource.tops
     c.loop-resource.invariant.evaluations (omega (arith, c.loop-resource-test.false, c.loop-resource.auto.resource-index-end, c.loop-resource.auto.resources))
 
 pub returns-clause-entries : goal.returns-clause-entries
 returns-clause-entries g c =
-    count-all (attributes_of (world_of c.args.world.now) c.args.before.now) c.args.resources.now c.loop-resource.resource-index c.args.entry.now
+    count-all (attributes_of (world_of c.args.prefix.now.world.now) c.args.prefix.now.before.now) c.args.resources.now c.loop-resource.resource-index c.args.entry.now
     c.loop-resource.entry c.loop-resource.invariant.entries
     (omega (arith, c.loop-resource-test.false, c.loop-resource.auto.resource-index-end, c.loop-resource.auto.resources))
 

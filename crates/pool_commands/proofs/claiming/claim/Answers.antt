@@ -44,12 +44,12 @@ returns-clause-step g c =
 
 pub returns-clause-cost : goal.returns-clause-cost
 returns-clause-cost g c =
-    λ priorities. subst (λ (n : List ℕ). c.claim-answer.new.tops
-    ≤ c.args.tops.now + 4 * undecided_for_claim (state_with c.args.moment priorities c.args.books.now) n) c.bytes-2.ensures
+    λ priorities. subst (λ (n : List ℕ). c.claim-answer.new.meter.tops.now
+    ≤ c.args.meter.now.tops.now + 4 * undecided_for_claim (state_with c.args.moment priorities c.args.books.now) n) c.bytes-2.ensures
     (c.claim-answer.ensures.cost priorities)
 
 pub returns-clause-looks : goal.returns-clause-looks
 returns-clause-looks g c =
-    λ priorities. subst (λ (n : List ℕ). c.claim-answer.new.touch
-    ≤ c.args.touch.now + 9 * offered_for_claim (state_with c.args.moment priorities c.args.books.now) n) c.bytes-2.ensures
+    λ priorities. subst (λ (n : List ℕ). c.claim-answer.new.meter.touch.now
+    ≤ c.args.meter.now.touch.now + 9 * offered_for_claim (state_with c.args.moment priorities c.args.books.now) n) c.bytes-2.ensures
     (c.claim-answer.ensures.looks priorities)

@@ -18,7 +18,7 @@ returns-in_err-found-clause-cost g c =
     record { long = stock-length books.ads.store; names = c.names_are_apart.ensures; apart = c.slots_are_apart.ensures } in
     let request = c.args.request.now in
     gang-cost stock beside c.args.moment (settings_of c.args.priorities.now) (jobs_of books.claims) books.listed books.owned (ad_frames request.ad)
-    request.ports c.args.tops.now c.first_gang.new.tops c.first_gang.ensures.evaluations c.first_gang.ensures.once
+    request.ports c.args.meter.now.tops.now c.first_gang.new.tops c.first_gang.ensures.evaluations c.first_gang.ensures.once
 
 pub returns-in_default-clause-cost : goal.returns-in_default-clause-cost
 returns-in_default-clause-cost g c =
@@ -28,7 +28,7 @@ returns-in_default-clause-cost g c =
     record { long = stock-length books.ads.store; names = c.names_are_apart.ensures; apart = c.slots_are_apart.ensures } in
     let request = c.args.request.now in
     gang-cost stock beside c.args.moment (settings_of c.args.priorities.now) (jobs_of books.claims) books.listed books.owned (ad_frames request.ad)
-    request.ports c.args.tops.now c.first_gang.new.tops c.first_gang.ensures.evaluations c.first_gang.ensures.once
+    request.ports c.args.meter.now.tops.now c.first_gang.new.tops c.first_gang.ensures.evaluations c.first_gang.ensures.once
 
 pub returns-in_err-names_of-clause-cost : goal.returns-in_err-names_of-clause-cost
 returns-in_err-names_of-clause-cost g c =
@@ -38,7 +38,7 @@ returns-in_err-names_of-clause-cost g c =
     record { long = stock-length books.ads.store; names = c.names_are_apart.ensures; apart = c.slots_are_apart.ensures } in
     let request = c.args.request.now in
     gang-cost stock beside c.args.moment (settings_of c.args.priorities.now) (jobs_of books.claims) books.listed books.owned (ad_frames request.ad)
-    request.ports c.args.tops.now c.first_gang.new.tops c.first_gang.ensures.evaluations c.first_gang.ensures.once
+    request.ports c.args.meter.now.tops.now c.first_gang.new.tops c.first_gang.ensures.evaluations c.first_gang.ensures.once
 
 pub returns-clause-cost : goal.returns-clause-cost
 returns-clause-cost g c =
@@ -48,7 +48,7 @@ returns-clause-cost g c =
     record { long = stock-length books.ads.store; names = c.names_are_apart.ensures; apart = c.slots_are_apart.ensures } in
     let request = c.args.request.now in
     gang-cost stock beside c.args.moment (settings_of c.args.priorities.now) (jobs_of books.claims) books.listed books.owned (ad_frames request.ad)
-    request.ports c.args.tops.now c.first_gang.new.tops c.first_gang.ensures.evaluations c.first_gang.ensures.once
+    request.ports c.args.meter.now.tops.now c.first_gang.new.tops c.first_gang.ensures.evaluations c.first_gang.ensures.once
 
 pub returns-in_default-clause-names : goal.returns-in_default-clause-names
 returns-in_default-clause-names g c =

@@ -1,5 +1,5 @@
 use Rattle.std.proofs.Common.{ap}
-use Rattle.script_run.specs.Effects.{effects}
+use Rattle.script_run.specs.Effects.{effects_of}
 use Rattle.pool_engine.proofs.SummingLemmas.{done-read, done-words, done-write, memory-read, memory-words, memory-write, write-read, write-words}
 use Rattle.pool_engine.proofs.SummingLemmas.{Workload-unprinted, from_err}
 use Rattle.pool_engine.proofs.workload_run.run_workload.Goals as goal
@@ -7,8 +7,8 @@ use Rattle.pool_engine.proofs.workload_run.run_workload.Goals as goal
 pub returns-in_default-offer_summary-clause-ends : goal.returns-in_default-offer_summary-clause-ends
 returns-in_default-offer_summary-clause-ends g c =
     let unwritten = from_err c.offer_summary.result _ c.in_default-offer_summary.is c.offer_summary.ensures.unwritten in
-    Workload-unprinted c.args.machines (effects (g.K.Sink.shows c.args.sink.now) c.args.tops.now c.args.touch.now (g.D.Notices.shows c.args.desk.now))
-    (effects (g.K.Sink.shows c.offer_summary.new.sink) c.summed.new.tops c.summed.new.touch (g.D.Notices.shows c.summed.new.desk)) c.in-Ok.ensures.took.0
+    Workload-unprinted c.args.machines (effects_of (g.K.Sink.shows c.args.sink.now) c.args.meter.now (g.D.Notices.shows c.args.desk.now))
+    (effects_of (g.K.Sink.shows c.offer_summary.new.sink) c.summed.new.meter (g.D.Notices.shows c.summed.new.desk)) c.in-Ok.ensures.took.0
     c.in-Ok.summary.refused (ap g.K.Sink.shows unwritten) c.in-Ok.ensures.took.1
 
 pub returns-in_default-clause-words : goal.returns-in_default-clause-words

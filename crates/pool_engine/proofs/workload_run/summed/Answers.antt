@@ -1,7 +1,7 @@
 use Rattle.std.proofs.Common.{List, IfOk, OnErr, ap, subst}
 use Rattle.pool_script.specs.declared.command.Command.{Command}
 use Rattle.script_run.specs.declared.run_end.RunEnd.TheVariants.{OutOfMemory}
-use Rattle.script_run.specs.Effects.{effects}
+use Rattle.script_run.specs.Effects.{effects_of}
 use Rattle.run_rules.specs.Events.{events_of}
 use Rattle.script_run.specs.Answering.{Stopped, Took}
 use Rattle.pool_state.specs.Heard.{Heard, heard, opened}
@@ -16,7 +16,7 @@ use Rattle.pool_engine.proofs.workload_run.summed.Goals as goal
 pub returns-in_err-script-clause-stopped : goal.returns-in_err-script-clause-stopped
 returns-in_err-script-clause-stopped g c =
     always_err c.from_residual.result _ (Stopped-none pool_rules pool_lawful (opened (g.D.Notices.shows c.args.desk.now))
-    (effects silent c.args.tops.now c.args.touch.now (g.D.Notices.shows c.args.desk.now)) (workload_commands c.args.machines))
+    (effects_of silent c.args.meter.now (g.D.Notices.shows c.args.desk.now)) (workload_commands c.args.machines))
 
 pub returns-clause-summed : goal.returns-clause-summed
 returns-clause-summed g c =
@@ -31,8 +31,8 @@ pub returns-clause-took : goal.returns-clause-took
 returns-clause-took g c =
     let rows = g.D.Notices.shows c.args.desk.now in
     let there = ap (λ (pool : State). heard pool rows) c.requires in
-    let before = effects silent c.args.tops.now c.args.touch.now rows in
-    let after = effects silent c.sum_waiting-summary.new.tops c.sum_waiting-summary.new.touch (g.D.Notices.shows c.sum_waiting-summary.new.desk) in
+    let before = effects_of silent c.args.meter.now rows in
+    let after = effects_of silent c.sum_waiting-summary.new.meter (g.D.Notices.shows c.sum_waiting-summary.new.desk) in
     subst (λ (commands : List Command). IfOk c.sum_waiting-summary.result
     (λ summary. (t : Heard) × Took pool_rules (opened rows) t before after commands 0 summary.refused)) c.in_ok-script.ensures
     (subst (λ (h : Heard). IfOk c.sum_waiting-summary.result
@@ -42,8 +42,8 @@ pub returns-clause-stopped : goal.returns-clause-stopped
 returns-clause-stopped g c =
     let rows = g.D.Notices.shows c.args.desk.now in
     let there = ap (λ (pool : State). heard pool rows) c.requires in
-    let before = effects silent c.args.tops.now c.args.touch.now rows in
-    let after = effects silent c.sum_waiting-summary.new.tops c.sum_waiting-summary.new.touch (g.D.Notices.shows c.sum_waiting-summary.new.desk) in
+    let before = effects_of silent c.args.meter.now rows in
+    let after = effects_of silent c.sum_waiting-summary.new.meter (g.D.Notices.shows c.sum_waiting-summary.new.desk) in
     subst (λ (commands : List Command). OnErr c.sum_waiting-summary.result (Stopped pool_rules (opened rows) before after commands OutOfMemory))
     c.in_ok-script.ensures
     (subst (λ (h : Heard). OnErr c.sum_waiting-summary.result (Stopped pool_rules h before after c.in_ok-script.script.waiting OutOfMemory)) there

@@ -1,12 +1,12 @@
-use Rattle.std.proofs.Common.{◌%◌, ◌+◌, ◌*◌, ◌^◌, ◌-◌, ◌∙◌, ap, length, take, drop}
+use Rattle.std.proofs.Common.{ℕ, ◌<◌, ◌-◌, ◌^◌, ◌∙◌, ap, arith, drop, length, subst, take}
 use Rattle.pool_text.specs.Folding.{folded}
 use Rattle.pool_text.specs.Digests.{word_from}
-use Rattle.pool_text.proofs.DigestLemmas.{word-more}
+use Rattle.pool_text.proofs.DigestLemmas.{word-half}
 use Rattle.pool_text.proofs.digest.word_of.Goals as goal
 
-pub loop-rest-preserved : goal.loop-rest-preserved
-loop-rest-preserved c =
-    let bytes = c.loop-rest.rest.now in
-    ap (λ l. word_from (((c.loop-rest.word * 256) % (2 ^ 64) + l) % (2 ^ 64)) (folded (take (length bytes - 1) (drop 1 bytes)))) c.from.ensures
-    ∙ word-more c.loop-rest.word bytes c.in-len1-up.len_at_least
-    ∙ c.loop-rest.invariant
+pub returns : goal.returns
+returns c =
+    let bytes = c.args.letters.now in
+    c.word_with-2.ensures
+    ∙ ap (λ (w : ℕ). word_from w (folded (take (length bytes - 4) (drop 4 bytes)))) (c.from.ensures ∙ c.half_word.ensures)
+    ∙ word-half bytes (omega arith) (subst (λ (n : ℕ). n < 2 ^ 32) c.half_word.ensures c.half_word.type_inv)

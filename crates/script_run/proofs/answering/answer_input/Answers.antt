@@ -1,6 +1,7 @@
 use Rattle.std.proofs.Common.{arith, length-take, refl}
 use Rattle.std.proofs.lemmas.Result.{err_from_is_err_and}
 use Rattle.script_run.proofs.EndLemmas.{err-words}
+use Rattle.script_run.proofs.MeterLemmas.{same-none, same-on}
 use Rattle.script_run.proofs.ReadingLemmas.{Reading-finish, Reading-lost, Reading-past, Reading-piece, Reading-room, Reading-room_last, Reading-start}
 use Rattle.script_run.proofs.ReadingLemmas.{Reading-stopped, take_one}
 use Rattle.script_run.proofs.answering.answer_input.Goals as goal
@@ -10,6 +11,7 @@ loop-left-init g c =
     let machine = c.requires in
     record {
       reading = Reading-start g.M.Machine.rules g.met.M.Machine.lawful _ _ _ _ machine.stands machine.over machine.waiting;
+      same = same-none c.args.meter.now;
       ratio = omega arith;
       room = refl;
     }
@@ -41,6 +43,7 @@ loop-left-preserved g c = record {
       Reading-piece g.M.Machine.rules g.met.M.Machine.lawful _ _ _ _ _ _ _ _ _ c.loop-left.invariant.reading _ _ _ _ _ _ _ c.in-Ok.ensures.reads
       c.if-count-eq0.false (omega (arith, c.in-Ok.ensures.inside, length-take c.in-Ok.count c.read_piece.new.buffer)) c.in-Ok.ensures.within
       c.in_ok-refused.ensures.took c.in_ok-refused.ensures.waiting c.in_ok-refused.ensures.over c.in_ok-refused.ensures.stands;
+  same = same-on c.loop-left.invariant.same c.answer_piece.ensures.same;
   ratio = omega (arith, c.loop-left.invariant.ratio, c.answer_piece.ensures.ratio);
   room = omega (arith, c.read_piece.auto.buffer, c.loop-left.invariant.room);
 }

@@ -1,15 +1,17 @@
-use Rattle.std.proofs.Common.{◌≡◌, ◌+◌, ◌*◌, ◌≤◌, length}
-use Rattle.script_run.specs.Effects.{effects}
+use Rattle.std.proofs.Common.{◌≡◌, length}
+use Rattle.pool_steps.specs.Spent.{IsPaid, IsSame}
+use Rattle.script_run.specs.Effects.{effects_of}
 use Rattle.script_run.proofs.ReadingLemmas.{Reading}
 use Rattle.script_run.proofs.answering.answer_input.Given as goal
 
 abbrev pub invariant-loop-left : goal.invariant-loop-left
 invariant-loop-left g l = record {
   reading : Reading g.M.Machine.rules (g.M.Machine.state l.initial.machine (g.D.Notices.shows l.initial.desk)) (g.S.Source.shows l.initial.source)
-      (g.S.Source.shows l.source) (effects (g.K.Sink.shows l.initial.sink) l.initial.tops l.initial.touch (g.D.Notices.shows l.initial.desk))
-      (effects (g.K.Sink.shows l.sink) l.tops l.touch (g.D.Notices.shows l.desk)) (g.M.Machine.held l.machine)
+      (g.S.Source.shows l.source) (effects_of (g.K.Sink.shows l.initial.sink) l.initial.meter (g.D.Notices.shows l.initial.desk))
+      (effects_of (g.K.Sink.shows l.sink) l.meter (g.D.Notices.shows l.desk)) (g.M.Machine.held l.machine)
       (g.M.Machine.state l.machine (g.D.Notices.shows l.desk)) l.refused l.left;
-  ratio : l.entry + 9216 * l.initial.tops ≤ l.initial.entry + 9216 * l.tops;
+  same : IsSame l.initial.meter l.meter;
+  ratio : IsPaid l.initial.meter l.meter;
   room : length l.buffer ≡ 4096;
 }
 

@@ -1,7 +1,7 @@
 use Rattle.std.proofs.Common.{refl}
 use Rattle.std.proofs.lemmas.Result.{err_from_is_err_and}
 use Rattle.script_run.specs.Answering.{Answers}
-use Rattle.script_run.specs.Effects.{beside, effects}
+use Rattle.script_run.specs.Effects.{beside_of, effects_of}
 use Rattle.script_run.proofs.TookLemmas.{Stopped-failed, Stopped-offered, from_some}
 use Rattle.script_run.proofs.WroteLemmas.{Broke-at}
 use Rattle.script_run.proofs.answering.answer_one.Goals as goal
@@ -10,8 +10,8 @@ pub returns-in_err-answer-clause-stopped : goal.returns-in_err-answer-clause-sto
 returns-in_err-answer-clause-stopped g c =
     let sink = g.K.Sink.shows c.args.sink.now in
     let exit = err_from_is_err_and c.from_residual.result c.from_residual.ensures.1 in
-    rw (exit.1, exit.2) (Stopped-failed g.M.Machine.rules g.met.M.Machine.lawful _ _ (effects sink c.args.tops.now c.args.touch.now
-    (g.D.Notices.shows c.args.desk.now)) (effects sink c.answer.new.tops c.answer.new.touch (g.D.Notices.shows c.answer.new.desk)) refl
+    rw (exit.1, exit.2) (Stopped-failed g.M.Machine.rules g.met.M.Machine.lawful _ _ (effects_of sink c.args.meter.now
+    (g.D.Notices.shows c.args.desk.now)) (effects_of sink c.answer.new.meter (g.D.Notices.shows c.answer.new.desk)) refl
     c.in_err-answer.ensures.failed)
 
 pub returns-in-Err-clause-stopped : goal.returns-in-Err-clause-stopped
@@ -20,8 +20,8 @@ returns-in-Err-clause-stopped g c =
     from_some c.in_ok-answer.field-0 c.in-Some.answer (Answers g.M.Machine.rules (g.M.Machine.held c.args.machine.now).waiting
     (g.M.Machine.held c.answer.new.self).waiting (g.M.Machine.state c.args.machine.now (g.D.Notices.shows c.args.desk.now))
     (g.M.Machine.state c.answer.new.self (g.D.Notices.shows c.answer.new.desk))
-    (beside c.args.tops.now c.args.touch.now (g.D.Notices.shows c.args.desk.now))
-    (beside c.answer.new.tops c.answer.new.touch (g.D.Notices.shows c.answer.new.desk))) c.in-Some.is c.in_ok-answer.ensures.answered in
+    (beside_of c.args.meter.now (g.D.Notices.shows c.args.desk.now))
+    (beside_of c.answer.new.meter (g.D.Notices.shows c.answer.new.desk))) c.in-Some.is c.in_ok-answer.ensures.answered in
     let broke =
     Broke-at (g.K.Sink.shows c.args.sink.now) (g.K.Sink.shows c.write_all-written.new.sink) c.in-Some.answer.text c.in-Err.field-0
     (rw c.bytes.ensures at c.in-Err.ensures) in

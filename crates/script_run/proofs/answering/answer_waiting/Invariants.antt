@@ -1,6 +1,7 @@
-use Rattle.std.proofs.Common.{◌≡◌, ℕ, ◌+◌, ◌*◌, ◌≤◌, List, length}
+use Rattle.std.proofs.Common.{◌≡◌, ℕ, List, length}
+use Rattle.pool_steps.specs.Spent.{IsPaid, IsSame}
 use Rattle.pool_script.specs.Standing.{StandsFor}
-use Rattle.script_run.specs.Effects.{effects}
+use Rattle.script_run.specs.Effects.{effects_of}
 use Rattle.script_run.proofs.RunningLemmas.{Running}
 use Rattle.script_run.proofs.answering.answer_waiting.Given as goal
 
@@ -8,10 +9,11 @@ abbrev pub invariant-loop-refusals : goal.invariant-loop-refusals
 invariant-loop-refusals g l = record {
   running : Running g.M.Machine.rules (g.M.Machine.state l.initial.machine (g.D.Notices.shows l.initial.desk))
       (g.M.Machine.state l.machine (g.D.Notices.shows l.desk))
-      (effects (g.K.Sink.shows l.initial.sink) l.initial.tops l.initial.touch (g.D.Notices.shows l.initial.desk))
-      (effects (g.K.Sink.shows l.sink) l.tops l.touch (g.D.Notices.shows l.desk)) (g.M.Machine.held l.initial.machine).waiting
+      (effects_of (g.K.Sink.shows l.initial.sink) l.initial.meter (g.D.Notices.shows l.initial.desk))
+      (effects_of (g.K.Sink.shows l.sink) l.meter (g.D.Notices.shows l.desk)) (g.M.Machine.held l.initial.machine).waiting
       (g.M.Machine.held l.machine).waiting l.before l.refused;
-  ratio : l.entry + 9216 * l.initial.tops ≤ l.initial.entry + 9216 * l.tops;
+  same : IsSame l.initial.meter l.meter;
+  ratio : IsPaid l.initial.meter l.meter;
   over : (g.M.Machine.held l.machine).over ≡ (g.M.Machine.held l.initial.machine).over;
   stands : (bytes : List ℕ) (n : ℕ) → StandsFor g.M.Machine.rules.given (g.M.Machine.held l.initial.machine) bytes n
       → (m : ℕ) × StandsFor g.M.Machine.rules.given (g.M.Machine.held l.machine) bytes m;

@@ -45,7 +45,7 @@ returns-clause-cost g c = λ priorities.
     let stock = stock_of books.ads.store in
     let beside : AreBeside stock.ads stock.slots =
     record { long = stock-length books.ads.store; names = c.names_are_apart.ensures; apart = c.slots_are_apart.ensures } in
-    subst (λ (n : ℕ). c.claim.new.tops ≤ c.args.tops.now + 4 * n)
+    subst (λ (n : ℕ). c.claim.new.tops ≤ c.args.meter.now.tops.now + 4 * n)
     (sym (undecided-seen stock beside c.args.moment priorities (jobs_of books.claims) books.listed books.owned c.args.name.now)) c.claim.ensures.evaluations
 
 pub returns-clause-looks : goal.returns-clause-looks
@@ -54,5 +54,5 @@ returns-clause-looks g c = λ priorities.
     let stock = stock_of books.ads.store in
     let beside : AreBeside stock.ads stock.slots =
     record { long = stock-length books.ads.store; names = c.names_are_apart.ensures; apart = c.slots_are_apart.ensures } in
-    subst (λ (n : ℕ). c.claim.new.touch ≤ c.args.touch.now + 9 * n)
+    subst (λ (n : ℕ). c.claim.new.touch ≤ c.args.meter.now.touch.now + 9 * n)
     (sym (offered-seen stock beside c.args.moment priorities (jobs_of books.claims) books.listed books.owned c.args.name.now)) c.claim.ensures.looks

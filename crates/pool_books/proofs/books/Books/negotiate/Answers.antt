@@ -8,7 +8,7 @@ use Rattle.pool_books.specs.Ports.{HasOwnPorts}
 use Rattle.pool_books.specs.Rows.{IsSpinHeld}
 use Rattle.pool_books.proofs.DockLemmas.{holders-stored}
 use Rattle.pool_books.proofs.HitLemmas.{if_ok}
-use Rattle.pool_books.proofs.MarketLemmas.{looks-seen, negotiated, undecided-seen}
+use Rattle.pool_books.proofs.MarketLemmas.{looks-seen, negotiated, part-seen, undecided-seen}
 use Rattle.pool_books.proofs.MatchedLemmas.{part-kept, part-of, part-stored}
 use Rattle.pool_books.proofs.NameLemmas.{AreBeside}
 use Rattle.pool_books.proofs.PortLemmas.{all-own}
@@ -62,13 +62,22 @@ returns-clause-held g c =
     if_ok c.cycle.result (λ answered. answered ≡ map (spin_named jobs) spins) (All (IsSpinHeld stock.slots))
     (λ answered is. subst (All (IsSpinHeld stock.slots)) (sym is) (spins-held stock.slots jobs spins c.cycle.ensures.stored)) c.cycle.ensures.cycle
 
+pub returns-clause-part : goal.returns-clause-part
+returns-clause-part g c =
+    let books = c.args.self.now in
+    let stock = stock_of books.ads.store in
+    let beside : AreBeside stock.ads stock.slots =
+    record { long = sym c.len-len.ensures.ads ∙ c.len-len.ensures.slots; names = c.names_are_apart.ensures; apart = c.slots_are_apart.ensures } in
+    part-seen stock beside c.args.moment (settings_of c.args.priorities.now) (jobs_of books.claims) books.listed books.owned c.cycle.result
+    (jobs_of c.cycle.new.claims) c.cycle.ensures.part
+
 pub returns-clause-cost : goal.returns-clause-cost
 returns-clause-cost g c =
     let books = c.args.self.now in
     let stock = stock_of books.ads.store in
     let beside : AreBeside stock.ads stock.slots =
     record { long = sym c.len-len.ensures.ads ∙ c.len-len.ensures.slots; names = c.names_are_apart.ensures; apart = c.slots_are_apart.ensures } in
-    subst (λ (n : ℕ). c.cycle.new.tops ≤ c.args.tops.now + 5 * n)
+    subst (λ (n : ℕ). c.cycle.new.tops ≤ c.args.meter.now.tops.now + 5 * n)
     (sym (undecided-seen stock beside c.args.moment (settings_of c.args.priorities.now) (jobs_of books.claims) books.listed books.owned))
     c.cycle.ensures.evaluations
 
@@ -78,5 +87,5 @@ returns-clause-looks g c =
     let stock = stock_of books.ads.store in
     let beside : AreBeside stock.ads stock.slots =
     record { long = sym c.len-len.ensures.ads ∙ c.len-len.ensures.slots; names = c.names_are_apart.ensures; apart = c.slots_are_apart.ensures } in
-    subst (λ (n : ℕ). c.cycle.new.touch ≤ c.args.touch.now + n)
+    subst (λ (n : ℕ). c.cycle.new.touch ≤ c.args.meter.now.touch.now + n)
     (sym (looks-seen stock beside c.args.moment (settings_of c.args.priorities.now) (jobs_of books.claims) books.listed books.owned)) c.cycle.ensures.looks

@@ -1,24 +1,20 @@
-use Rattle.std.proofs.Common.{ℕ, List, length, sym, ◌∙◌, ap}
-use Rattle.ad_parser.specs.Outcomes.{ad_outcome}
-use Rattle.claim_table.specs.Settings.{settings_of}
+use Rattle.std.proofs.Common.{◌≡◌, ◌≤◌, ◌+◌, IfOk, subst}
 use Rattle.pool_books.specs.State.{State}
-use Rattle.pool_books.proofs.HitLemmas.{if_ok}
-use Rattle.pool_commands.specs.Ads.{advertise}
 use Rattle.pool_state.specs.Pool.{state_of}
-use Rattle.pool_state.specs.Step.{step}
-use Rattle.pool_state.proofs.CommandLemmas.{step-Advertise, step-Withdraw}
+use Rattle.pool_state.specs.Step.{allowance, looks, step}
 use Rattle.pool_state.proofs.pool.Pool.answer.Goals as goal
 
-pub returns-in-Advertise-clause-step : goal.returns-in-Advertise-clause-step
-unfolding state_of
-returns-in-Advertise-clause-step g c =
-    let s : State = state_of c.args.self.now in
-    if_ok c.advertise.result _ _ (λ reply is. ap (step s) c.in-Advertise.is ∙ step-Advertise s c.in-Advertise.name c.in-Advertise.lifetime c.in-Advertise.block
-    ∙ ap (λ (block : List ℕ). advertise s c.in-Advertise.name c.in-Advertise.lifetime (length block) (ad_outcome block)) (sym c.bytes.ensures)
-    ∙ is (settings_of c.args.self.now.priorities)) c.advertise.ensures.step
+pub returns-clause-step : goal.returns-clause-step
+returns-clause-step g c =
+    subst (λ (s : State). IfOk c.run.result (λ reply. step s c.args.command.now ≡ (state_of c.run.new.self, reply))) c.make_ready.ensures.state
+    c.run.ensures.step
 
-pub returns-in-Withdraw-clause-step : goal.returns-in-Withdraw-clause-step
-unfolding state_of
-returns-in-Withdraw-clause-step g c =
-    if_ok c.withdraw.result _ _ (λ reply is. ap (step (state_of c.args.self.now)) c.in-Withdraw.is ∙ step-Withdraw (state_of c.args.self.now) c.in-Withdraw.name
-    ∙ is c.args.self.now.moment (settings_of c.args.self.now.priorities)) c.withdraw.ensures.step
+pub returns-clause-cost : goal.returns-clause-cost
+returns-clause-cost g c =
+    subst (λ (s : State). c.run.new.meter.tops.now ≤ c.args.meter.now.tops.now + allowance s c.args.command.now) c.make_ready.ensures.state
+    c.run.ensures.cost
+
+pub returns-clause-looks : goal.returns-clause-looks
+returns-clause-looks g c =
+    subst (λ (s : State). c.run.new.meter.touch.now ≤ c.args.meter.now.touch.now + looks s c.args.command.now) c.make_ready.ensures.state
+    c.run.ensures.looks

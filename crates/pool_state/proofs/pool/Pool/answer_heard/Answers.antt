@@ -38,6 +38,7 @@ returns-in_default g c =
       unposted = c.answer_and_tell.ensures.unposted;
       none_left = c.answer_and_tell.ensures.none_left;
       cost = c.answer_and_tell.ensures.cost;
+      same = c.answer_and_tell.ensures.same;
       ratio = c.answer_and_tell.ensures.ratio;
       looks = c.answer_and_tell.ensures.looks;
     }

@@ -5,7 +5,7 @@ mod LoopLemmas
 mod MemberLemmas
 mod MemberScanLemmas
 mod MemberWeighLemmas
-mod MeterLemmas
+pub mod MeterLemmas
 pub mod OfferLemmas
 mod OrderLemmas
 pub mod PoolLemmas

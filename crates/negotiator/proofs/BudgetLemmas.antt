@@ -327,9 +327,6 @@ module _ (moment : ℕ) (stock : Stock) (settings : List Setting) (jobs : List J
 
 -- ---- the meter
 
--- it is the same where nothing was spent, and after one part and another
+-- it is the same where nothing was spent
 pub same-none : {F E T : Type 0} (meter : Meter F E T) → IsSame meter meter
 same-none meter = record { tops = refl; entry = refl; touch = refl }
-
-pub same-on : {F E T : Type 0} {first middle last : Meter F E T} → IsSame first middle → IsSame middle last → IsSame first last
-same-on before after = record { tops = after.tops ∙ before.tops; entry = after.entry ∙ before.entry; touch = after.touch ∙ before.touch }

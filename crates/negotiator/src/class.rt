@@ -23,6 +23,7 @@ use crate::{Scene, Seeker, twins_are_matched_alike};
 use ad_tree::{Ad, Request};
 use bilateral_match::{Known, Looks, best_knowing, shortlist};
 use claim_table::{ClaimTable, Standing};
+use conjunct_plan::SidePlan;
 use pool_steps::Meter;
 use pool_text::{OutOfMemory, Slots};
 use significant_attrs::are_twins;
@@ -171,24 +172,23 @@ pub(crate) fn search_alone<F: Ledger, E: Ledger, T: Ledger>(
     ensures looks { meter.new.touch.now + looks.new.saved ≤ meter.old.touch.now + looks.old.saved
         + 9 * least_left (stock_in scene.now).ads (tests_of (ad_frames seeker.now.request.now.ad) 0 []) }
 {
+    let request = seeker.request;
     let standing = Standing {
         claims: seeker.claims,
         priorities: scene.priorities,
     };
-    best_knowing(
-        scene.alloc,
-        scene.store,
-        scene.index,
-        &standing,
-        seeker.request,
+    let plan = SidePlan::of(scene.alloc, &request.ad, 0, &request.ports)?;
+    let job = bilateral_match::Scene {
+        alloc: scene.alloc,
+        store: scene.store,
+        index: scene.index,
+        held: &standing,
+        request,
+        plan,
         number,
-        scene.moment,
-        known,
-        looks,
-        meter.tops,
-        meter.entry,
-        meter.touch,
-    )
+        moment: scene.moment,
+    };
+    best_knowing(&job, known, looks, meter)
 }
 
 // The resources for a job whose user has this number, in order.
@@ -210,21 +210,22 @@ fn rank<F: Ledger, E: Ledger, T: Ledger>(
         (9 * least_left (stock_in scene.now).ads (tests_of (ad_frames seeker.now.request.now.ad) 0 [])) }
     ensures ratio { AreSmallAds (stock_in scene.now).ads → AreSmallJobs (jobs_around seeker.now) → IsPaid meter.old meter.new }
 {
+    let request = seeker.request;
     let standing = Standing {
         claims: seeker.claims,
         priorities: scene.priorities,
     };
-    let slots = shortlist(
-        scene.alloc,
-        scene.store,
-        scene.index,
-        &standing,
-        seeker.request,
+    let plan = SidePlan::of(scene.alloc, &request.ad, 0, &request.ports)?;
+    let job = bilateral_match::Scene {
+        alloc: scene.alloc,
+        store: scene.store,
+        index: scene.index,
+        held: &standing,
+        request,
+        plan,
         number,
-        scene.moment,
-        meter.tops,
-        meter.entry,
-        meter.touch,
-    )?;
+        moment: scene.moment,
+    };
+    let slots = shortlist(&job, meter)?;
     Ok(Ranked { slots, passed: 0 })
 }

@@ -1,4 +1,5 @@
 use Rattle.std.proofs.Common.{List, ℕ, ap, arith, false, get_or, map, refl, subst, sym, ◌∙◌}
+use Rattle.bilateral_match.proofs.MeterLemmas.{same-on}
 use Rattle.claim_table.specs.Small.{AreSmallJobs}
 use Rattle.claim_table.specs.Table.{jobs_of}
 use Rattle.negotiator.specs.declared.answers.Offered.{Offered}
@@ -6,7 +7,7 @@ use Rattle.negotiator.specs.Clusters.{counted_with}
 use Rattle.negotiator.specs.Cycle.{Offer}
 use Rattle.negotiator.specs.Markets.{IsPart, offer_named, with_offers}
 use Rattle.negotiator.specs.Scenes.{settings_in, stock_in}
-use Rattle.negotiator.proofs.BudgetLemmas.{paid-none, paid-on, paid-within, same-none, same-on, within-on}
+use Rattle.negotiator.proofs.BudgetLemmas.{paid-none, paid-on, paid-within, same-none, within-on}
 use Rattle.negotiator.proofs.ClusterLemmas.{counted-same, same-clusters}
 use Rattle.negotiator.proofs.SmallLemmas.{small-offers}
 use Rattle.negotiator.proofs.SpinLoopLemmas.{on_err}

@@ -7,7 +7,7 @@ use Rattle.bilateral_match.specs.Known.{AreRanks, rank_expr}
 use Rattle.bilateral_match.specs.Members.{IsBest}
 use Rattle.bilateral_match.specs.Scan.{attributes_for, evaluations_for, member_at}
 use Rattle.bilateral_match.specs.Scenes.{pool_in, request_in, stock_in}
-use Rattle.bilateral_match.proofs.choosing.first_at.Given as goal
+use Rattle.bilateral_match.proofs.choosing.best_knowing.Given as goal
 
 abbrev pub invariant-loop-place : goal.invariant-loop-place
 invariant-loop-place g l =

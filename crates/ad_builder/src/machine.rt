@@ -159,7 +159,8 @@ impl Machine {
         }
     }
 
-    /// The ad of the ad literal that stands alone on the stack of a machine for an ad.
+    /// The ad of the ad literal that stands alone on the stack of a machine for an ad. Where none does, or not all is built,
+    /// that is told as want of memory.
     pub fn finish_ad(self) -> Result<Ad, OutOfMemory>
         ensures { IfOk result (λ ad. ad_frames ad ≡ ad_of (top (stack self))) }
     {
@@ -169,14 +170,18 @@ impl Machine {
             is_high,
             ..
         } = self;
-        if !is_ad || is_high {
+        if is_ad && !is_high {
+            if let Some(made) = builder.finish_ad() {
+                return made;
+            }
+        } else {
             drop(builder);
-            return Err(OutOfMemory);
         }
-        builder.finish_ad()
+        Err(OutOfMemory)
     }
 
-    /// The expression that stands alone on the stack of a machine for an expression, with the ad of its ad literals.
+    /// The expression that stands alone on the stack of a machine for an expression, with the ad of its ad literals. Where none
+    /// does, or not all is built, that is told as want of memory.
     pub fn finish_phrase(self) -> Result<Phrase, OutOfMemory>
         ensures frames { IfOk result (λ phrase. ad_frames phrase.ad ≡ phrase_of (top (stack self))) }
         ensures expr { IfOk result (λ phrase. tree phrase.expr ≡ phrase_tree (top (stack self))) }
@@ -187,10 +192,13 @@ impl Machine {
             is_high,
             ..
         } = self;
-        if is_ad || is_high {
+        if !is_ad && !is_high {
+            if let Some(made) = builder.finish_phrase() {
+                return made;
+            }
+        } else {
             drop(builder);
-            return Err(OutOfMemory);
         }
-        builder.finish_phrase()
+        Err(OutOfMemory)
     }
 }

@@ -38,35 +38,38 @@ def folded_multiply(values: int, multiplier: int, of: Lanes) -> int:
     return (product ^ product >> 64) & of.low
 
 
-def added_halves(values: int, multiplier: int, of: Lanes) -> int:
-    """The halves of each product of 128 bits, added."""
-    product = values * multiplier
-    return (product & of.low) + (product >> 64 & of.low) & of.low
-
-
 class Digest(NamedTuple):
-    """A hash that is taken byte by byte: how it begins for a length, what a byte makes of it, and how it ends."""
+    """A hash of names of so many letters: what it is after the first of them, what one more makes of it, and how it ends."""
 
     alphabet: str
-    begin: Callable[[int], int]
+    begin: Callable[[str, int], int]
     step: Callable[[int, int, Lanes], int]
-    end: Callable[[int, Lanes], int]
+    end: Callable[[int, str, Lanes], int]
+
+
+def pool_name_step(values: int, letters: int, of: Lanes) -> int:
+    return folded_multiply(values ^ letters * 0x1_0101, FOLD_MULTIPLIER ^ 2, of)
+
+
+def pool_name_begin(prefix: str, length: int) -> int:
+    begun = folded_multiply(FOLD_BEGIN ^ length, FOLD_MULTIPLIER ^ 16, lanes(1))
+    return functools.reduce(lambda value, letter: pool_name_step(value, ord(letter), lanes(1)), prefix, begun)
+
+
+def attribute_name_end(values: int, prefix: str, of: Lanes) -> int:
+    first = int.from_bytes(prefix.encode(), "big") << 32
+    return folded_multiply(values + first * of.ones, NAME_MULTIPLIER, of)
 
 
 # The hash of the names of ads, jobs and users: their length and then each byte is written to the kit's `FoldHasher`.
-POOL_NAME = Digest(
-    alphabet=string.ascii_letters + string.digits + "_-",
-    begin=lambda length: folded_multiply(FOLD_BEGIN ^ length, FOLD_MULTIPLIER ^ 16, lanes(1)),
-    step=lambda values, letters, of: folded_multiply(values ^ letters * 0x1_0101, FOLD_MULTIPLIER ^ 2, of),
-    end=lambda values, of: values,
-)
-# The hash of the names of attributes (`name_digest` of `pool_text`, which a frame's table takes as it is). Small letters stand
-# for themselves, and the seven that are tried are one word.
+POOL_NAME = Digest(string.ascii_letters + string.digits + "_-", pool_name_begin, pool_name_step, lambda values, prefix, of: values)
+# The hash of the names of attributes (`hashed_name` and `mixed` of `ad_tree`) under the seed 0, which a run has only by a rare
+# chance. Small letters stand for themselves; of seven the first four and the last four are one word.
 ATTRIBUTE_NAME = Digest(
-    alphabet=string.ascii_lowercase,
-    begin=lambda length: 0,
+    string.ascii_lowercase,
+    begin=lambda prefix, length: ord(prefix[-1]),
     step=lambda values, letters, of: values * 0x100 + letters,
-    end=lambda values, of: added_halves(values, NAME_MULTIPLIER, of),
+    end=attribute_name_end,
 )
 
 
@@ -78,9 +81,7 @@ def letters(alphabet: str, each: int) -> int:
 
 def hashes(digest: Digest, prefix: str) -> bytes:
     """The hashes of all names with the prefix and `TRIED` letters more, a lane each; the first of these goes round fastest."""
-    values = digest.begin(len(prefix) + TRIED)
-    for letter in prefix:
-        values = digest.step(values, ord(letter), lanes(1))
+    values = digest.begin(prefix, len(prefix) + TRIED)
     count = 1
     for _ in range(TRIED):
         many = count * len(digest.alphabet)
@@ -88,7 +89,7 @@ def hashes(digest: Digest, prefix: str) -> bytes:
         values = digest.step(values, letters(digest.alphabet, count), lanes(many))
         count = many
     of = lanes(count)
-    values = digest.end(values, of)
+    values = digest.end(values, prefix, of)
     return ((values ^ values >> 32) & of.half).to_bytes(count * LANE, "little")
 
 

@@ -290,7 +290,7 @@ def with_attributes(names: list[str]) -> Lines:
 
 @case(size=500, most=511)
 def attributes_that_collide(size: int) -> Lines:
-    """Twenty ads of N attributes with names that a table can't tell apart."""
+    """Twenty ads of N attributes with names that a table can't tell apart under the seed 0; a run draws another."""
     yield from with_attributes(colliding(ATTRIBUTE_NAME, size))
 
 

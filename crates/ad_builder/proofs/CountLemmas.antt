@@ -2,12 +2,15 @@
 use Rattle.std.proofs.Common.{◌≡◌, ℕ, suc, ◌+◌, min, List, [], ◌∷◌, refl, arith}
 use Rattle.ad_tree.specs.Inline.{Inline, Inlines, shape, inner, end, next, Defs, no_defs, def, count, count_all, count_defs, definitions, definitions_all}
 use Rattle.ad_tree.specs.Inline.{definitions_in}
-use Rattle.ad_tree.specs.Tree.{Label, all, any, choice}
+use Rattle.ad_tree.specs.Tree.{Label, all, any, choice, list}
 use Rattle.ad_builder.specs.Counts.{counting_limit, count_of, definitions_of, AreCounted}
-use Rattle.ad_builder.specs.Machine.{top, below, defined_last, with_element}
+use Rattle.ad_builder.specs.Machine.{top, below, defined_last, with_element, with_definition}
 use Rattle.ad_builder.specs.Shapes.{leaf, over_one, over_two, over_three, followed_by, joined}
 use Rattle.ad_builder.specs.declared.instruction.Infix.{Infix}
 use Rattle.ad_builder.specs.declared.instruction.Infix.TheVariants as infixes
+use Rattle.ad_builder.specs.declared.measure.Kind.TheVariants.{Ad}
+use Rattle.ad_builder.specs.Measures.{kind_of}
+use Rattle.ad_builder.proofs.MeasureLemmas.{no-ad}
 
 -- ---- one tree and one definition more
 
@@ -99,11 +102,25 @@ module _ (frames defs : ℕ) (st : List Inline) (h : AreCounted frames defs st) 
   pub open-counted : (more : ℕ) → more ≡ min (frames + 1) counting_limit → AreCounted more defs (inner no_defs ∷ st)
   open-counted more is = record { frames = omega (arith, h.frames, is); definitions = omega (arith, h.definitions) }
 
--- a definition more in the ad literal below the last tree
-pub define-counted : (frames defs now more : ℕ) (x : Inline) (ds : Defs) (text : List ℕ) (st : List Inline) → now ≡ frames
-    → more ≡ min (defs + 1) counting_limit
-    → AreCounted frames defs (x ∷ inner ds ∷ st) → AreCounted now more (inner (defined_last ds text x) ∷ st)
-define-counted frames defs now more x ds text st same is h = record {
-  frames = omega (arith, same, h.frames, count_defs-last ds text x);
+-- a definition more in an ad literal
+define-counted : (frames defs more : ℕ) (x : Inline) (ds : Defs) (text : List ℕ) (st : List Inline) → more ≡ min (defs + 1) counting_limit
+    → AreCounted frames defs (x ∷ inner ds ∷ st) → AreCounted frames more (inner (defined_last ds text x) ∷ st)
+define-counted frames defs more x ds text st is h = record {
+  frames = omega (arith, h.frames, count_defs-last ds text x);
   definitions = omega (arith, h.definitions, is, definitions_in-last ds text x);
 }
+
+module _ (frames defs : ℕ) (x : Inline) (text : List ℕ) where
+  -- a definition in the tree below the last, which is an ad literal
+  pub defined-counted : (more : ℕ) (st : List Inline) → kind_of (top st) ≡ Ad → more ≡ min (defs + 1) counting_limit → AreCounted frames defs (x ∷ st)
+      → AreCounted frames more (with_definition (top st) text x ∷ below st)
+  defined-counted more [] is_ad is h = absurd cc
+  defined-counted more (shape label xs ∷ st) is_ad is h = absurd (no-ad label is_ad)
+  defined-counted more (inner ds ∷ st) is_ad is h = define-counted frames defs more x ds text st is h
+
+  -- and where it isn't one
+  pub listed-counted : (st : List Inline) → (kind_of (top st) ≡ Ad → ⊥) → AreCounted frames defs (x ∷ st)
+      → AreCounted frames defs (with_definition (top st) text x ∷ below st)
+  listed-counted [] other h = two-counted frames defs (x ∷ []) h list
+  listed-counted (shape label xs ∷ st) other h = two-counted frames defs (x ∷ shape label xs ∷ st) h list
+  listed-counted (inner ds ∷ st) other h = absurd (other refl)

@@ -1,5 +1,5 @@
 -- How the operands of the builder change with each instruction.
-use Rattle.std.proofs.Common.{◌≡◌, ℕ, ◌+◌, min, Bool, true, false, List, [], ◌∷◌, ◌++◌, length, map, refl, sym, subst, ap, ◌∙◌}
+use Rattle.std.proofs.Common.{◌≡◌, ℕ, Bool, true, false, List, [], ◌∷◌, ◌++◌, length, map, refl, sym, subst, ap, ◌∙◌}
 use Rattle.ad_tree.specs.Frames.{Frame, empty_frame, defined, settled_frame}
 use Rattle.ad_tree.specs.Inline.{Inline, Inlines, shape, inner, end, next, Defs, no_defs, def, number, number_all, frames, spelled, spelled_tree, ad_of}
 use Rattle.ad_tree.specs.Inline.{phrase_of, phrase_tree}
@@ -13,9 +13,7 @@ use Rattle.ad_builder.specs.Shapes.{leaf, over_one, over_two, over_three, follow
 use Rattle.ad_builder.specs.declared.instruction.Infix.{Infix}
 use Rattle.ad_builder.specs.declared.instruction.Infix.TheVariants as infixes
 use Rattle.ad_builder.specs.JoinedTrees.{last_tree, joined_tree, TakesElement}
-use Rattle.ad_builder.specs.Counts.{counting_limit, AreCounted}
 use Rattle.ad_builder.specs.Laid.{Slot, value, open_ad, Laid}
-use Rattle.ad_builder.proofs.CountLemmas.{define-counted}
 
 -- ---- one tree and one definition more
 
@@ -136,15 +134,6 @@ module _ (is_ad : Bool) (p : ℕ) (fs : List Frame) where
         h.1.3,
         h.1.4,
       )
-
-  -- and counted
-  pub define-recounted : (ss : List Slot) (n outer : ℕ) (t : Tree) (name : List ℕ) (st : List Inline) → Laid is_ad (value t ∷ open_ad n outer ∷ ss) p st fs
-      → (f d now most : ℕ) → now ≡ f → most ≡ min (d + 1) counting_limit → AreCounted f d st
-      → AreCounted now most (with_definition (top (below st)) name (top st) ∷ below (below st))
-  define-recounted ss n outer t name [] h f d now most same is c = absurd h
-  define-recounted ss n outer t name (x ∷ []) h f d now most same is c = absurd h.1
-  define-recounted ss n outer t name (x ∷ shape label xs ∷ st) h f d now most same is c = absurd h.1
-  define-recounted ss n outer t name (x ∷ inner ds ∷ st) h f d now most same is c = define-counted f d now most x ds name st same is c
 
   -- an ad literal has all its definitions
   pub close-laid : (ss : List Slot) (n outer : ℕ) (st : List Inline) → Laid is_ad (open_ad n outer ∷ ss) p st fs → Laid is_ad (value (frame n) ∷ ss) outer st fs

@@ -26,7 +26,7 @@ pub longer : (m n r : Measure) (label : Label) (xs : Inlines) (y : Inline) → I
     → r.height ≡ max m.height (min (n.height + 1) tallest_measured) → r.kind ≡ m.kind → IsMeasure r (shape label (followed_by xs y))
 longer m n r label xs y a b h k = record { height = omega (arith, highest-last xs y, h, a.height, b.height); kind = k ∙ a.kind }
 
-no-ad : (label : Label) → kind_at label ≡ Ad → ⊥
+pub no-ad : (label : Label) → kind_at label ≡ Ad → ⊥
 no-ad all e = absurd cc
 no-ad any e = absurd cc
 no-ad label e = absurd cc

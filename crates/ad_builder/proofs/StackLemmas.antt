@@ -35,6 +35,13 @@ module _ {T : Type 0} where
       (get_or-reverse xs 0 x.now within ∙ ap (λ k. slice_index_or xs k x.now) place ∙ sym is)
   last-first xs n None len some is = tt
 
+  pub last-none : (xs : List T) (n : ℕ) (last : Option (MutBor T)) → n ≡ length xs → (0 < n → IsSome last) → last ≡ None → reverse xs ≡ []
+  last-none [] n last len some none = refl
+  last-none (x ∷ xs) n (Some y) len some none = absurd cc
+  last-none (x ∷ xs) n None len some none =
+      let no : IsSome {T = MutBor T} None = some (omega (arith, len)) in
+      absurd cc
+
   -- a list with its first item, and with another in its place
   pub first-changed : (xs : List T) {x : T} (y : T) → slice_get xs 0 ≡ Some x → (rest : List T) × (xs ≡ x ∷ rest) × (slice_set xs 0 y ≡ y ∷ rest)
   first-changed [] y first = absurd cc

@@ -1,82 +1,31 @@
 // The builder of ads and of expressions: it carries out instructions. Ad literals become frames of a draft, whose
 // definitions are made there one after another. Names and strings move from the instructions into the ad.
 //
-// An instruction that asks for an operand that isn't there is answered by want of memory, which promises nothing. That none
-// of those that the grammar gives does is tested, and not proved.
-ghost use Rattle.std.specs.Prelude.{◌≡◌, ◌<◌, [], ◌∷◌, ◌++◌, ℕ, Bool, length, min, true, false, List, IfOk, IfSome, IsTrue, OnOk};
+// Where an instruction asks for a tree that isn't there, or that doesn't take what it is given, the trees are only measured
+// from then on, and nothing can be finished. That none of those that the grammar gives does is tested, and not proved.
+ghost use Rattle.std.specs.Prelude.{◌≡◌, ◌<◌, [], ◌∷◌, ◌++◌, Bool, length, map, min, true, false, List, IfOk, IfSome, OnOk};
 ghost use Rattle.ad_tree.specs.Ad.{ad_frames};
 ghost use Rattle.ad_tree.specs.Draft.{draft_frames};
 ghost use Rattle.ad_tree.specs.Inline.{Inline, height, inner, no_defs, ad_of, phrase_of, phrase_tree};
 ghost use Rattle.ad_tree.specs.Tree.{tree, trees, node, all, any, pack};
-ghost use Rattle.ad_builder.specs.Machine.{top, with_definition};
-ghost use Rattle.ad_builder.specs.Measures.{IsMeasure};
-ghost use Rattle.ad_builder.specs.declared.builder.Operand.{Operand};
+ghost use Rattle.ad_builder.specs.Machine.{top};
+ghost use Rattle.ad_builder.specs.Measures.{IsMeasure, AreMeasures};
 ghost use Rattle.ad_builder.specs.declared.instruction.Infix.TheVariants as infixes;
-ghost use Rattle.ad_builder.specs.JoinedTrees.{joined_tree, TakesElement};
-ghost use Rattle.ad_builder.specs.declared.builder.Operand.TheVariants as kinds;
-ghost use Rattle.ad_builder.specs.declared.measure.Measure.{Measure};
+ghost use Rattle.ad_builder.specs.JoinedTrees.{joined_tree};
 ghost use Rattle.ad_builder.specs.Counts.{tallest_measured};
 
 use crate::instruction::{Infix, Instruction};
-use crate::measure::Measure;
+use crate::measure::{Kind, Measure};
+use crate::operand::{Operand, add_to_last, is_open_alone, measure_last, sole_value, unbuilt};
 use crate::stack::Stack;
 use ad_tree::{Ad, Draft, Expr, Exprs, Phrase};
 use pool_text::{Lit, OutOfMemory, Text, UnOp};
 use std::alloc::Global;
 
-/// A tree, or an ad literal whose definitions are being made, with its frame and the frame in which it stands; each with
-/// how high it is.
-#[derive(Drop)]
-pub enum Operand {
-    Value(Measure, Expr),
-    Open(Measure, u32, u32),
-}
-
-impl Operand {
-    ghost use Rattle.std.specs.Prelude.{◌≡◌, ℕ, List, IsTrue, OnOk};
-    ghost use Rattle.ad_builder.specs.Builds.{slot, measure_of};
-    ghost use Rattle.ad_builder.specs.Laid.{value};
-    ghost use Rattle.ad_builder.specs.Machine.{with_element, with_definition};
-    ghost use Rattle.ad_builder.specs.Measures.{IsMeasure};
-    ghost use Rattle.ad_tree.specs.Inline.{Inline};
-    ghost use Rattle.ad_tree.specs.Tree.{Tree, tree};
-
-    /// Adds a tree to a list or a call.
-    fn add_element(&mut self, measure: Measure, element: Expr) -> Result<(), OutOfMemory>
-        ensures tree { OnOk result ((t u : Tree) × (slot self.old ≡ value t) × (slot self.new ≡ value u) × TakesElement t (tree element) u) }
-        ensures measure { OnOk result ((x y : Inline) → IsMeasure (measure_of self.old) x → IsMeasure measure y
-            → IsMeasure (measure_of self.new) (with_element x y)) }
-    {
-        match self {
-            Operand::Value(left, whole) => {
-                *left = left.with_element(measure);
-                lengthen(whole, element)
-            }
-            Operand::Open(_, _, _) => {
-                drop(element);
-                Err(OutOfMemory)
-            }
-        }
-    }
-
-    /// Measures an ad literal that is open with one definition more. Answers whether it is one.
-    fn count_definition(&mut self, definition: Measure) -> bool
-        ensures { IsTrue result → (l r : Measure) × (n outer : ℕ) × (self.old ≡ kinds.Open l n outer) × (self.new ≡ kinds.Open r n outer)
-            × ((name : List ℕ) (x y : Inline) → IsMeasure l x → IsMeasure definition y → IsMeasure r (with_definition x name y)) }
-    {
-        match self {
-            Operand::Open(left, _, _) => {
-                *left = left.with_definition(definition);
-                true
-            }
-            Operand::Value(_, _) => false,
-        }
-    }
-}
-
 /// An ad while its instructions are carried out: `parent` is the frame in which the next tree stands. Frames and
 /// definitions are counted as they are spelled, those that are replaced included. While it is steady, no repeated name has
-/// moved an ad literal, and the frames of the draft stand as those of its ad.
+/// moved an ad literal, and the frames of the draft stand as those of its ad. Where not all is built, trees are only measured
+/// and counted.
 #[derive(Drop)]
 pub struct Builder {
     alloc: Global,
@@ -86,34 +35,36 @@ pub struct Builder {
     frames: u32,
     definitions: u32,
     is_steady: bool,
+    is_built: bool,
     ghost inside: { parent < length (draft_frames draft) },
 }
 
 impl Builder {
     ghost use Rattle.ad_builder.specs.declared.instruction.Instruction.TheVariants as instructions;
-    ghost use Rattle.ad_builder.specs.Builds.{HasPut, HasTaken, Holds, Carries, CarriesElement};
+    ghost use Rattle.ad_builder.specs.Builds.{measure_of, HasPut, HasGiven, HasTaken, HasCounted, Holds, Carries, CarriesElement};
     ghost use Rattle.ad_builder.specs.Laid.{value};
 
-    /// Nothing but an empty root.
-    pub fn of_expression(alloc: Global) -> Builder
+    /// Nothing but an empty root, with this seed for the hashes of names.
+    pub fn of_expression(alloc: Global, seed: u64) -> Builder
         ensures { Holds false result [] }
     {
         Builder {
             alloc,
-            draft: Draft::new(alloc),
+            draft: Draft::with_seed(alloc, seed),
             operands: Stack::new(alloc),
             parent: 0,
             frames: 0,
             definitions: 0,
             is_steady: true,
+            is_built: true,
         }
     }
 
     /// The root as an ad literal that is open, with room for so many definitions.
-    pub fn of_ad(alloc: Global, room: usize) -> Result<Builder, OutOfMemory>
+    pub fn of_ad(alloc: Global, seed: u64, room: usize) -> Result<Builder, OutOfMemory>
         ensures { IfOk result (λ builder. Holds true builder (inner no_defs ∷ [])) }
     {
-        let mut draft = Draft::new(alloc);
+        let mut draft = Draft::with_seed(alloc, seed);
         draft.reserve(0, room)?;
         let mut operands = Stack::new(alloc);
         operands.push(Operand::Open(Measure::ad(), 0, 0))?;
@@ -125,6 +76,7 @@ impl Builder {
             frames: 1,
             definitions: 0,
             is_steady: true,
+            is_built: true,
         })
     }
 
@@ -158,23 +110,30 @@ impl Builder {
         self.operands.push(Operand::Value(measure, expr))
     }
 
-    /// The last tree, which is taken, with its measure.
+    /// The last tree, which is taken, with its measure. Where none is there, or an ad literal that is open, it is only measured.
     #[inline(always)]
-    fn value(&mut self) -> Result<(Measure, Expr), OutOfMemory>
-        ensures { IfOk result (λ last. HasPut (value (tree last.1)) last.0 self.new self.old) }
+    fn value(&mut self) -> (Measure, Expr)
+        ensures { HasGiven (tree result.1) result.0 self.old self.new }
     {
         match self.operands.pop() {
-            Some(Operand::Value(measure, expr)) => Ok((measure, expr)),
-            _ => Err(OutOfMemory),
+            Some(Operand::Value(measure, expr)) => (measure, expr),
+            Some(Operand::Open(measure, _, _)) => {
+                self.is_built = false;
+                (measure, unbuilt())
+            }
+            None => {
+                self.is_built = false;
+                (Measure::leaf(), unbuilt())
+            }
         }
     }
 
     /// The last tree in a box.
     #[inline(always)]
     fn boxed(&mut self) -> Result<(Measure, Box<Expr>), OutOfMemory>
-        ensures { IfOk result (λ last. HasPut (value (tree last.1.value)) last.0 self.new self.old) }
+        ensures { IfOk result (λ last. HasGiven (tree last.1.value) last.0 self.old self.new) }
     {
-        let (measure, expr) = self.value()?;
+        let (measure, expr) = self.value();
         Ok((measure, boxed(self.alloc, expr)?))
     }
 
@@ -188,17 +147,10 @@ impl Builder {
     fn infix(&mut self, operator: Infix) -> Result<(), OutOfMemory>
         ensures { Carries (instructions.Infix operator) self.old self.new result }
     {
-        let (right, second) = self.value()?;
-        match self.value() {
-            Ok((left, first)) => {
-                let expr = joined(self.alloc, operator, first, second)?;
-                self.put(left.joined(operator, right), expr)
-            }
-            Err(error) => {
-                drop(second);
-                Err(error)
-            }
-        }
+        let (right, second) = self.value();
+        let (left, first) = self.value();
+        let expr = joined(self.alloc, operator, first, second)?;
+        self.put(left.joined(operator, right), expr)
     }
 
     fn choice(&mut self) -> Result<(), OutOfMemory>
@@ -253,7 +205,7 @@ impl Builder {
     fn element(&mut self) -> Result<(), OutOfMemory>
         ensures { Carries instructions.Element self.old self.new result }
     {
-        let (measure, element) = self.value()?;
+        let (measure, element) = self.value();
         self.add(measure, element)
     }
 
@@ -262,13 +214,9 @@ impl Builder {
     fn add(&mut self, measure: Measure, element: Expr) -> Result<(), OutOfMemory>
         ensures { OnOk result (HasTaken (tree element) measure self.old self.new) }
     {
-        match self.operands.last_mut() {
-            Some(whole) => whole.add_element(measure, element),
-            None => {
-                drop(element);
-                Err(OutOfMemory)
-            }
-        }
+        let is_added = add_to_last(&mut self.operands, measure, element)?;
+        self.is_built &= is_added;
+        Ok(())
     }
 
     /// Carries out an instruction, and adds the tree that it puts on the stack to the list or the call below. A leaf is added at
@@ -303,29 +251,46 @@ impl Builder {
     fn define(&mut self, name: Text) -> Result<(), OutOfMemory>
         ensures { Carries (instructions.Define name) self.old self.new result }
     {
-        let (right, value) = self.value()?;
-        if !measure_last(&mut self.operands, right) {
+        let (right, value) = self.value();
+        self.count_definition();
+        let is_open = measure_last(&mut self.operands, right)?;
+        if !is_open {
             drop(value);
-            return Err(OutOfMemory);
+            self.is_built = false;
+            return Ok(());
         }
         let is_steady = self.draft.define_noting(self.parent, name, value)?;
         self.is_steady &= is_steady;
-        self.definitions = self.definitions.saturating_add(1);
         Ok(())
     }
 
-    /// Ends the definitions of the ad literal that is the last operand.
+    /// Counts a definition in the last tree, where it is an ad literal.
+    fn count_definition(&mut self)
+        ensures { HasCounted self.old self.new }
+    {
+        if self.last_measure().kind == Kind::Ad {
+            self.definitions = self.definitions.saturating_add(1);
+        }
+    }
+
+    /// Ends the definitions of the ad literal that is the last operand. The root stays open, and a tree that isn't
+    /// open stays as it is.
     fn close(&mut self) -> Result<(), OutOfMemory>
         ensures { Carries instructions.Close self.old self.new result }
     {
-        let Some((measure, frame, outer)) = take_open(&mut self.operands) else {
-            return Err(OutOfMemory);
-        };
-        if outer >= self.parent {
-            return Err(OutOfMemory);
+        match self.operands.pop() {
+            Some(Operand::Open(measure, frame, outer)) if outer < self.parent => {
+                self.parent = outer;
+                self.put(measure, Expr::Frame(frame))
+            }
+            Some(Operand::Open(measure, frame, outer)) => {
+                self.operands.push(Operand::Open(measure, frame, outer))
+            }
+            Some(Operand::Value(measure, expr)) => {
+                self.operands.push(Operand::Value(measure, expr))
+            }
+            None => Ok(()),
         }
-        self.parent = outer;
-        self.put(measure, Expr::Frame(frame))
     }
 
     /// Where its memory comes from.
@@ -352,108 +317,70 @@ impl Builder {
     pub fn last_height(&self) -> u8
         ensures { (is_ad : Bool) (st : List Inline) → Holds is_ad self.now st → result ≡ min tallest_measured (height (top st)) }
     {
+        self.last_measure().height
+    }
+
+    /// The measure of the last tree.
+    #[inline(always)]
+    fn last_measure(&self) -> Measure
+        ensures { (st : List Inline) → AreMeasures (map measure_of self.now.operands) st → IsMeasure result (top st) }
+    {
         match self.operands.last() {
-            Some(Operand::Value(measure, _)) => measure.height,
-            Some(Operand::Open(measure, _, _)) => measure.height,
-            None => 1,
+            Some(last) => last.measure(),
+            None => Measure::leaf(),
         }
     }
 
-    /// The ad of the root, where it is the only operand. The frames of a steady draft are those of its ad already.
-    pub fn finish_ad(self) -> Result<Ad, OutOfMemory>
+    /// The ad of the root, where all is built and it is the only operand. The frames of a steady draft are those of its ad
+    /// already.
+    pub fn finish_ad(self) -> Option<Result<Ad, OutOfMemory>>
         requires { (st : List Inline) × Holds true self st }
-        ensures { (st : List Inline) → Holds true self st → IfOk result (λ ad. ad_frames ad ≡ ad_of (top st)) }
+        ensures { (st : List Inline) → Holds true self st → IfSome result (λ made. IfOk made (λ ad. ad_frames ad ≡ ad_of (top st))) }
     {
         let Builder {
             draft,
             operands,
             is_steady,
+            is_built,
             ..
         } = self;
-        if !is_open_alone(operands) {
+        if !is_open_alone(operands) || !is_built {
             drop(draft);
-            return Err(OutOfMemory);
+            return None;
         }
         if is_steady {
-            draft.into_ad()
+            Some(draft.into_ad())
         } else {
-            draft.finish()
+            Some(draft.finish())
         }
     }
 
-    /// The only operand as an expression that stands alone.
-    pub fn finish_phrase(self) -> Result<Phrase, OutOfMemory>
+    /// The only operand as an expression that stands alone, where all is built.
+    pub fn finish_phrase(self) -> Option<Result<Phrase, OutOfMemory>>
         requires { (st : List Inline) × Holds false self st }
-        ensures { (st : List Inline) → Holds false self st → IfOk result (λ phrase.
-            (ad_frames phrase.ad ≡ phrase_of (top st)) × (tree phrase.expr ≡ phrase_tree (top st))) }
+        ensures { (st : List Inline) → Holds false self st → IfSome result (λ made. IfOk made (λ phrase.
+            (ad_frames phrase.ad ≡ phrase_of (top st)) × (tree phrase.expr ≡ phrase_tree (top st)))) }
     {
         let Builder {
             draft,
             operands,
             is_steady,
+            is_built,
             ..
         } = self;
-        match sole_value(operands) {
-            Ok(expr) => {
-                if is_steady {
-                    draft.into_phrase(expr)
-                } else {
-                    draft.finish_phrase(expr)
-                }
-            }
-            Err(error) => {
-                drop(draft);
-                Err(error)
-            }
+        let Some(expr) = sole_value(operands) else {
+            drop(draft);
+            return None;
+        };
+        if !is_built {
+            drop(expr);
+            drop(draft);
+            return None;
         }
-    }
-}
-
-/// The ad literal that is the last operand, which is taken: its measure, its frame, and the frame in which it stands.
-#[inline(always)]
-fn take_open(operands: &mut Stack<Operand>) -> Option<(Measure, u32, u32)>
-    ensures { IfSome result (λ ad. operands.old ≡ kinds.Open ad.0 ad.1 ad.2 ∷ operands.new) }
-{
-    match operands.pop() {
-        Some(Operand::Open(measure, frame, outer)) => Some((measure, frame, outer)),
-        other => {
-            drop(other);
-            None
-        }
-    }
-}
-
-/// Measures the ad literal that is the last operand with one definition more. Answers whether one is.
-#[inline(always)]
-fn measure_last(operands: &mut Stack<Operand>, definition: Measure) -> bool
-    ensures { IsTrue result → (l r : Measure) × (n outer : ℕ) × (rest : List Operand)
-        × (operands.old ≡ kinds.Open l n outer ∷ rest) × (operands.new ≡ kinds.Open r n outer ∷ rest)
-        × ((name : List ℕ) (x y : Inline) → IsMeasure l x → IsMeasure definition y → IsMeasure r (with_definition x name y)) }
-{
-    match operands.last_mut() {
-        Some(last) => last.count_definition(definition),
-        None => false,
-    }
-}
-
-/// Whether an ad literal that is open is the only operand.
-fn is_open_alone(operands: Stack<Operand>) -> bool
-    ensures { IsTrue result → (m : Measure) × (n : ℕ) × (outer : ℕ) × (operands ≡ kinds.Open m n outer ∷ []) }
-{
-    let mut operands = operands;
-    take_open(&mut operands).is_some() && operands.is_empty()
-}
-
-/// The tree that is the only operand.
-fn sole_value(operands: Stack<Operand>) -> Result<Expr, OutOfMemory>
-    ensures { IfOk result (λ expr. (m : Measure) × (operands ≡ kinds.Value m expr ∷ [])) }
-{
-    let mut operands = operands;
-    match operands.pop() {
-        Some(Operand::Value(_, expr)) if operands.is_empty() => Ok(expr),
-        other => {
-            drop(other);
-            Err(OutOfMemory)
+        if is_steady {
+            Some(draft.into_phrase(expr))
+        } else {
+            Some(draft.finish_phrase(expr))
         }
     }
 }
@@ -552,18 +479,4 @@ fn with_last(mut list: Exprs, last: Expr) -> Result<Exprs, OutOfMemory>
 {
     list.push(last)?;
     Ok(list)
-}
-
-/// Adds a tree to a list or to a call.
-fn lengthen(whole: &mut Expr, element: Expr) -> Result<(), OutOfMemory>
-    ensures { OnOk result (TakesElement (tree whole.old) (tree element) (tree whole.new)) }
-{
-    match whole {
-        Expr::List(list) => list.push(element),
-        Expr::Call(_, list) => list.push(element),
-        _ => {
-            drop(element);
-            Err(OutOfMemory)
-        }
-    }
 }

@@ -7,6 +7,7 @@ mod history;
 mod instruction;
 mod machine;
 mod measure;
+mod operand;
 mod size;
 mod stack;
 

@@ -46,12 +46,12 @@ impl Model for Machine {
 impl Machine {
     ghost use Rattle.ad_builder.specs.declared.instruction.Instruction.TheVariants as instructions;
 
-    /// A machine for an expression: nothing stands on its stack.
-    pub fn of_expression(alloc: Global) -> Machine
+    /// A machine for an expression: nothing stands on its stack. The hashes of names begin with this seed.
+    pub fn of_expression(alloc: Global, seed: u64) -> Machine
         ensures { stack result ≡ [] }
     {
         Machine {
-            builder: Builder::of_expression(alloc),
+            builder: Builder::of_expression(alloc, seed),
             is_ad: false,
             is_high: false,
             history: History::new(),
@@ -59,10 +59,10 @@ impl Machine {
     }
 
     /// A machine for an ad, which is the ad literal that stands on its stack, with room for so many definitions.
-    pub fn of_ad(alloc: Global, room: usize) -> Result<Machine, OutOfMemory>
+    pub fn of_ad(alloc: Global, seed: u64, room: usize) -> Result<Machine, OutOfMemory>
         ensures { IfOk result (λ machine. stack machine ≡ inner no_defs ∷ []) }
     {
-        let builder = Builder::of_ad(alloc, room)?;
+        let builder = Builder::of_ad(alloc, seed, room)?;
         Ok(Machine {
             builder,
             is_ad: true,
@@ -90,7 +90,7 @@ impl Machine {
                 Ok(())
             }
             Err(error) => {
-                *self = Machine::of_expression(self.builder.alloc());
+                *self = Machine::of_expression(self.builder.alloc(), 0);
                 Err(error)
             }
         }
@@ -131,7 +131,7 @@ impl Machine {
             }
             Err(error) => {
                 let alloc = self.builder.alloc();
-                *self = Machine::of_expression(alloc);
+                *self = Machine::of_expression(alloc, 0);
                 Err(error)
             }
         }
@@ -159,7 +159,8 @@ impl Machine {
         }
     }
 
-    /// The ad of the ad literal that stands alone on the stack of a machine for an ad.
+    /// The ad of the ad literal that stands alone on the stack of a machine for an ad. Where none does, or not all is built,
+    /// that is told as want of memory.
     pub fn finish_ad(self) -> Result<Ad, OutOfMemory>
         ensures { IfOk result (λ ad. ad_frames ad ≡ ad_of (top (stack self))) }
     {
@@ -169,14 +170,18 @@ impl Machine {
             is_high,
             ..
         } = self;
-        if !is_ad || is_high {
+        if is_ad && !is_high {
+            if let Some(made) = builder.finish_ad() {
+                return made;
+            }
+        } else {
             drop(builder);
-            return Err(OutOfMemory);
         }
-        builder.finish_ad()
+        Err(OutOfMemory)
     }
 
-    /// The expression that stands alone on the stack of a machine for an expression, with the ad of its ad literals.
+    /// The expression that stands alone on the stack of a machine for an expression, with the ad of its ad literals. Where none
+    /// does, or not all is built, that is told as want of memory.
     pub fn finish_phrase(self) -> Result<Phrase, OutOfMemory>
         ensures frames { IfOk result (λ phrase. ad_frames phrase.ad ≡ phrase_of (top (stack self))) }
         ensures expr { IfOk result (λ phrase. tree phrase.expr ≡ phrase_tree (top (stack self))) }
@@ -187,10 +192,13 @@ impl Machine {
             is_high,
             ..
         } = self;
-        if is_ad || is_high {
+        if !is_ad && !is_high {
+            if let Some(made) = builder.finish_phrase() {
+                return made;
+            }
+        } else {
             drop(builder);
-            return Err(OutOfMemory);
         }
-        builder.finish_phrase()
+        Err(OutOfMemory)
     }
 }

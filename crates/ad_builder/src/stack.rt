@@ -74,6 +74,7 @@ impl<T: Drop> Stack<T> {
     pub fn last_mut(&mut self) -> Option<&mut T>
         ensures* lends { sem 𝓛 (LendsIf (the_row T.row) T.row self.entry result (slice_set self.old 0) self.old) }
         ensures some { IfSome result (λ item. slice_get self.old 0 ≡ Some item.now) }
+        ensures none { result ≡ None → self.old ≡ [] }
     {
         self.items.last_mut()
     }

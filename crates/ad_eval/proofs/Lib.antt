@@ -3,6 +3,7 @@ mod CountLemmas
 mod ElementLemmas
 mod EnterLemmas
 pub mod KeptLemmas
+mod LightLemmas
 mod MeasureLemmas
 mod MoreLemmas
 mod NodeLemmas

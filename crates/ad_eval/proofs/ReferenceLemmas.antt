@@ -44,7 +44,7 @@ value_by-literal at w p (Some (node subscript ts)) lit is = absurd (cc)
 value_by-literal at w p (Some (node (call x) ts)) lit is = absurd (cc)
 value_by-literal at w p (Some (node list ts)) lit is = absurd (cc)
 
-value_at-literal : (w : PlainWorld) (s : Pos) (lit : Lit) → literal_of (expr_of w s) ≡ Some lit → (n : ℕ) → value_at (suc n) w s ≡ Some (plain_of_lit lit)
+pub value_at-literal : (w : PlainWorld) (s : Pos) (lit : Lit) → literal_of (expr_of w s) ≡ Some lit → (n : ℕ) → value_at (suc n) w s ≡ Some (plain_of_lit lit)
 unfolding value_at
 value_at-literal w s lit is n = value_by-literal (value_at n w) w (frame_of_attribute s) (expr_of w s) lit is
 

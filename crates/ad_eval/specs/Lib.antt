@@ -3,6 +3,7 @@ pub mod Branch
 pub mod Chain
 pub mod Dock
 pub mod Kept
+pub mod Light
 pub mod Listed
 pub mod Node
 pub mod Reference

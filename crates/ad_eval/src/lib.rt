@@ -19,5 +19,6 @@ mod top;
 
 pub use laws::{
     circles_have_no_value, equal_worlds_are_evaluated_alike, more_references_keep_a_value,
+    values_are_light,
 };
 pub use top::{dock, inner, rank, requirement, value};

@@ -12,12 +12,12 @@ ghost use Rattle.ad_eval.specs.Dock.{is_docked, meets_requirement, rank_by, rank
 ghost use Rattle.ad_eval.specs.Small.{AreSmall};
 ghost use Rattle.ad_eval.specs.Value.{evaluation, evaluation_at, inner_evaluation, value_with};
 
-use crate::evaluation::{attribute, evaluate};
+use crate::evaluation::evaluate;
 use crate::outcome::Outcome;
 use crate::scene::Scene;
 use crate::stop::Stop;
 use ad_tree::Expr;
-use ad_value::{MILLION, Value};
+use ad_value::{MILLION, Value, from_lit};
 use cycle_guard::Guard;
 use eval_scope::World;
 use pool_steps::Steps;
@@ -184,6 +184,24 @@ fn value_at<F: Ledger, E: Ledger>(
     ensures ratio { AreSmall (world_of world.now) → entry.new + 9216 * tops.old ≤ entry.old + 9216 * tops.new }
 {
     tops.tick();
+    match world.literal_at(pos) {
+        Some(lit) => from_lit(alloc, lit),
+        None => by_expression(alloc, world, pos, entry),
+    }
+}
+
+// The value of an attribute by its expression. No other is entered before it, and nothing asks for its value again, so that isn't
+// kept.
+fn by_expression<E: Ledger>(
+    alloc: Global,
+    world: &World<'_>,
+    pos: Pos,
+    entry: &mut Steps<E>,
+) -> Result<Value, OutOfMemory>
+    requires { IsSome (expr_of (world_of world.now) pos) }
+    ensures value { IfOk result (λ v. plain v ≡ evaluation_at (world_of world.now) pos) }
+    ensures entries { entry.new ≤ entry.old + attribute_count (world_of world.now) }
+{
     let scene = Scene {
         alloc,
         world,
@@ -191,10 +209,12 @@ fn value_at<F: Ledger, E: Ledger>(
             ad: pos.ad,
             frame: pos.frame,
         },
-        left: REFERENCES,
+        left: INNER_REFERENCES,
     };
     let mut guard = Guard::new(alloc);
-    let evaluated = attribute(&scene, &mut guard, entry, pos);
+    guard.enter(pos)?;
+    let expr = world.expr_at(pos, entry);
+    let evaluated = evaluate(&scene, &mut guard, entry, expr);
     value_or_error(evaluated)
 }
 

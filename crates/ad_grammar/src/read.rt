@@ -10,28 +10,29 @@ use ad_builder::Machine;
 use ad_lexer::Mark;
 use std::alloc::Global;
 
-/// The machine that has built words that are an expression. `Grammar` exactly where they are none.
-pub fn read_expression(alloc: Global, reader: Reader<'_>) -> Result<Machine, Stop>
+/// The machine that has built words that are an expression, with this seed for the hashes of names. `Grammar` exactly
+/// where they are none.
+pub fn read_expression(alloc: Global, seed: u64, reader: Reader<'_>) -> Result<Machine, Stop>
     ensures { IsRead (parsed_expr (left reader.entry)) result }
 {
     let mut reader = reader;
-    whole_expression(alloc, &mut reader)
+    whole_expression(alloc, seed, &mut reader)
 }
 
 /// The machine that has built words that are an ad, as an ad literal that stays open. `Grammar` exactly where they
 /// are none.
-pub fn read_ad(alloc: Global, reader: Reader<'_>) -> Result<Machine, Stop>
+pub fn read_ad(alloc: Global, seed: u64, reader: Reader<'_>) -> Result<Machine, Stop>
     ensures { IsRead (parsed_ad (left reader.entry)) result }
 {
     let mut reader = reader;
-    whole_ad(alloc, &mut reader)
+    whole_ad(alloc, seed, &mut reader)
 }
 
-fn whole_expression(alloc: Global, reader: &mut Reader<'_>) -> Result<Machine, Stop>
+fn whole_expression(alloc: Global, seed: u64, reader: &mut Reader<'_>) -> Result<Machine, Stop>
     ensures { IsRead (parsed_expr (left reader.old)) result }
 {
     let fuel = reader.count() + 1;
-    let mut machine = Machine::of_expression(alloc);
+    let mut machine = Machine::of_expression(alloc, seed);
     expression(alloc, reader, &mut machine, fuel)?;
     if reader.count() > 0 {
         return Err(Stop::Grammar);
@@ -39,12 +40,12 @@ fn whole_expression(alloc: Global, reader: &mut Reader<'_>) -> Result<Machine, S
     Ok(machine)
 }
 
-fn whole_ad(alloc: Global, reader: &mut Reader<'_>) -> Result<Machine, Stop>
+fn whole_ad(alloc: Global, seed: u64, reader: &mut Reader<'_>) -> Result<Machine, Stop>
     ensures { IsRead (parsed_ad (left reader.old)) result }
 {
     reader.expect(Mark::OpenBracket)?;
     let fuel = reader.count() + 1;
-    let mut machine = Machine::of_ad(alloc, reader.room())?;
+    let mut machine = Machine::of_ad(alloc, seed, reader.room())?;
     definitions(alloc, reader, &mut machine, fuel)?;
     if reader.count() > 0 {
         return Err(Stop::Grammar);

@@ -10,4 +10,4 @@ pub use laws::{
     parsed_ads_are_kept, parsed_phrases_are_kept, texts_have_one_answer, texts_have_one_outcome,
     texts_spell_parsed_trees,
 };
-pub use parse::{parse_ad, parse_expr};
+pub use parse::{parse_ad, parse_ad_seeded, parse_expr, parse_expr_seeded};

@@ -34,7 +34,18 @@ pub fn parse_ad(alloc: Global, text: &[u8]) -> Result<Ad, ParseFault>
     ensures outcome { (outcome : Result Inline ParseFault) → HasAdOutcome text.now outcome → IsAdAnswer outcome result }
     ensures small { IfOk result (λ ad. IsSmall (ad_frames ad)) }
 {
-    ad_in(alloc, text)
+    parse_ad_seeded(alloc, 0, text)
+}
+
+/// The same, with this seed for the hashes of names: whoever writes a text and doesn't know the seed can't choose names that
+/// meet in a table.
+pub fn parse_ad_seeded(alloc: Global, seed: u64, text: &[u8]) -> Result<Ad, ParseFault>
+    requires { length text.now < 2 ^ 32 }
+    ensures answer { AnswersAd text.now result }
+    ensures outcome { (outcome : Result Inline ParseFault) → HasAdOutcome text.now outcome → IsAdAnswer outcome result }
+    ensures small { IfOk result (λ ad. IsSmall (ad_frames ad)) }
+{
+    ad_in(alloc, seed, text)
 }
 
 /// The expression that a text spells, with the ad of its ad literals.
@@ -46,25 +57,35 @@ pub fn parse_expr(alloc: Global, text: &[u8]) -> Result<Phrase, ParseFault>
     ensures outcome { (outcome : Result Inline ParseFault) → HasExprOutcome text.now outcome → IsExprAnswer outcome result }
     ensures small { IfOk result (λ phrase. IsSmall (ad_frames phrase.ad)) }
 {
-    phrase_in(alloc, text)
+    parse_expr_seeded(alloc, 0, text)
 }
 
-fn ad_in(alloc: Global, text: &[u8]) -> Result<Ad, ParseFault>
+/// The same, with this seed for the hashes of names.
+pub fn parse_expr_seeded(alloc: Global, seed: u64, text: &[u8]) -> Result<Phrase, ParseFault>
+    requires { length text.now < 2 ^ 32 }
+    ensures answer { AnswersExpr text.now result }
+    ensures outcome { (outcome : Result Inline ParseFault) → HasExprOutcome text.now outcome → IsExprAnswer outcome result }
+    ensures small { IfOk result (λ phrase. IsSmall (ad_frames phrase.ad)) }
+{
+    phrase_in(alloc, seed, text)
+}
+
+fn ad_in(alloc: Global, seed: u64, text: &[u8]) -> Result<Ad, ParseFault>
     requires { length text.now < 2 ^ 32 }
     ensures { AnswersAd text.now result }
 {
     let reader = shallow_reader(alloc, text)?;
-    let machine = read_ad(alloc, reader)?;
+    let machine = read_ad(alloc, seed, reader)?;
     check(&machine, 0)?;
     Ok(machine.finish_ad()?)
 }
 
-fn phrase_in(alloc: Global, text: &[u8]) -> Result<Phrase, ParseFault>
+fn phrase_in(alloc: Global, seed: u64, text: &[u8]) -> Result<Phrase, ParseFault>
     requires { length text.now < 2 ^ 32 }
     ensures { AnswersExpr text.now result }
 {
     let reader = shallow_reader(alloc, text)?;
-    let machine = read_expression(alloc, reader)?;
+    let machine = read_expression(alloc, seed, reader)?;
     check(&machine, 1)?;
     Ok(machine.finish_phrase()?)
 }

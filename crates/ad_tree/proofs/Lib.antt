@@ -14,3 +14,4 @@ mod SameLemmas
 pub mod SpellingLemmas
 pub mod TreeLemmas
 mod WalkLemmas
+mod WordLemmas

@@ -1,6 +1,5 @@
 pub mod Ad
 pub mod Attributes
-pub mod Digests
 pub mod Draft
 pub mod Enclosing
 pub mod Frames
@@ -15,3 +14,4 @@ pub mod Special
 pub mod Steady
 pub mod Table
 pub mod Tree
+pub mod Words

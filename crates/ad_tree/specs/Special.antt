@@ -3,7 +3,7 @@ use Rattle.std.specs.Prelude.{ℕ, List, Option, position, codes}
 use Rattle.std.specs.Option.{option_or}
 use Rattle.ad_tree.specs.Names.{same_name}
 use Rattle.ad_tree.specs.Frames.{Frame, names_in, names_of}
-use Rattle.ad_tree.specs.declared.matching.MatchAttributes.{MatchAttributes}
+use Rattle.ad_tree.specs.declared.frame.MatchAttributes.{MatchAttributes}
 
 -- the attribute of frame f that has a name, by its place in the frame
 abbrev pub attribute_named : List Frame → ℕ → List ℕ → Option ℕ

@@ -1,15 +1,13 @@
 // The attributes of a frame, which are equal where their names are, so that a set of them has each name once.
-ghost use Rattle.std.specs.Prelude.{◌≡◌};
 ghost use Rattle.std.specs.Cmp.{partial_equiv_from_equiv};
 ghost use Rattle.std.specs.Cmp.Lexicographic.{on_texts_equal};
-ghost use Rattle.pool_text.specs.Digests.{name_digest};
 ghost use Rattle.pool_text.specs.Folding.{folded};
 ghost use Rattle.ad_tree.specs.Names.{same_name};
-ghost use Rattle.ad_tree.specs.Digests.{hashed_name, equal_names};
+ghost use Rattle.ad_tree.specs.Words.{hashed_name, equal_names};
 
 use crate::Expr;
 use crate::name_key::NameKey;
-use pool_text::{Text, name_digest};
+use pool_text::{Text, same_folded};
 use std::hash::{Hash, Hasher};
 
 /// A name with its expression.
@@ -17,31 +15,6 @@ use std::hash::{Hash, Hasher};
 pub struct Attribute {
     pub name: Text,
     pub expr: Expr,
-    digest: u64,
-    ghost digested: { digest ≡ name_digest name },
-}
-
-impl Attribute {
-    /// The attribute of this name and this expression.
-    #[inline(always)]
-    pub fn new(name: Text, expr: Expr) -> Attribute
-        ensures name { result.name ≡ name }
-        ensures expr { result.expr ≡ expr }
-    {
-        let digest = name_digest(name.bytes());
-        Attribute { name, expr, digest }
-    }
-
-    /// The name with its digest.
-    #[inline(always)]
-    pub fn key(&self) -> NameKey<'_>
-        ensures { result.bytes.now ≡ self.now.name }
-    {
-        NameKey {
-            bytes: self.name.bytes(),
-            digest: self.digest,
-        }
-    }
 }
 
 impl PartialEq for Attribute {
@@ -51,7 +24,7 @@ impl PartialEq for Attribute {
 
     #[inline(always)]
     fn eq(&self, other: &Attribute) -> bool {
-        self.key() == other.key()
+        same_folded(self.name.bytes(), other.name.bytes())
     }
 }
 
@@ -64,7 +37,9 @@ impl Hash for Attribute {
 
     ghost respects_eq = { λ a b. equal_names.fed a.name b.name };
 
+    #[inline(always)]
     fn hash<H: Hasher>(&self, state: &mut H) {
-        self.key().hash(state);
+        let name = self.name.bytes();
+        NameKey { name }.hash(state);
     }
 }

@@ -10,6 +10,7 @@ ghost use Rattle.ad_tree.specs.Steady.{MovesNone};
 ghost use Rattle.ad_tree.specs.Table.{frame_of, frames_of};
 
 use crate::frame::AdFrame;
+use crate::hasher::NameHashers;
 use crate::order::{is_in_order, is_phrase_in_order};
 use crate::placing::{place, place_definitions};
 use crate::{Ad, Expr, Phrase};
@@ -20,6 +21,7 @@ use std::alloc::Global;
 #[derive(Drop)]
 pub struct Draft {
     pub(crate) alloc: Global,
+    hashers: NameHashers,
     root: AdFrame,
     // Frames 1 and up.
     inner: Vec<AdFrame>,
@@ -33,9 +35,18 @@ impl Draft {
     pub fn new(alloc: Global) -> Draft
         ensures { draft_frames result ≡ empty_frame 0 ∷ [] }
     {
+        Draft::with_seed(alloc, 0)
+    }
+
+    /// The same, with this seed for the hashes of its names.
+    pub fn with_seed(alloc: Global, seed: u64) -> Draft
+        ensures { draft_frames result ≡ empty_frame 0 ∷ [] }
+    {
+        let hashers = NameHashers { seed };
         Draft {
             alloc,
-            root: AdFrame::new(alloc, 0),
+            hashers,
+            root: AdFrame::new(alloc, hashers, 0),
             inner: Vec::new(alloc),
         }
     }
@@ -43,16 +54,6 @@ impl Draft {
     /// Adds a frame for an ad literal that is to stand in the frame `parent`, and answers its number. Want of memory
     /// leaves the draft as it was; it is answered too where the numbers end.
     pub fn frame(&mut self, parent: u32) -> Result<u32, OutOfMemory>
-        requires { parent < length (draft_frames self.old) }
-        ensures number { IfOk result (λ frame. frame ≡ length (draft_frames self.old)) }
-        ensures ok { OnOk result (draft_frames self.new ≡ draft_frames self.old ++ empty_frame parent ∷ []) }
-        ensures err { OnErr result (draft_frames self.new ≡ draft_frames self.old) }
-    {
-        self.add_frame(parent)
-    }
-
-    // The same of whatever parent.
-    pub(crate) fn add_frame(&mut self, parent: u32) -> Result<u32, OutOfMemory>
         ensures number { IfOk result (λ frame. frame ≡ length (draft_frames self.old)) }
         ensures ok { OnOk result (draft_frames self.new ≡ draft_frames self.old ++ empty_frame parent ∷ []) }
         ensures err { OnErr result (draft_frames self.new ≡ draft_frames self.old) }
@@ -60,7 +61,8 @@ impl Draft {
         if self.inner.len() >= u32::MAX as usize - 1 {
             return Err(OutOfMemory);
         }
-        self.inner.push(AdFrame::new(self.alloc, parent))?;
+        self.inner
+            .push(AdFrame::new(self.alloc, self.hashers, parent))?;
         Ok(self.inner.len() as u32)
     }
 
@@ -114,9 +116,7 @@ impl Draft {
         if is_in_order(&self) {
             return self.into_ad();
         }
-        let ad = self.copied_ad();
-        drop(self);
-        ad
+        self.copied_ad()
     }
 
     /// The expression with the ad of its ad literals, whose root is empty. The frames are numbered from 1, as if the
@@ -145,7 +145,7 @@ impl Draft {
     fn copied_ad(&self) -> Result<Ad, OutOfMemory>
         ensures { IfOk result (λ ad. ad_frames ad ≡ frames 0 0 (spelled (draft_frames self.now))) }
     {
-        let mut copy = Draft::new(self.alloc);
+        let mut copy = Draft::with_seed(self.alloc, self.hashers.seed);
         place_definitions(self, self.inner.len(), 0, &self.root, &mut copy)?;
         copy.into_ad()
     }
@@ -157,7 +157,7 @@ impl Draft {
         ensures expr { IfOk result (λ phrase.
             tree phrase.expr ≡ number 1 (spelled_tree (draft_frames self.now) (tree expr.now))) }
     {
-        let mut copy = Draft::new(self.alloc);
+        let mut copy = Draft::with_seed(self.alloc, self.hashers.seed);
         let expr = place(self, self.count(), 0, expr, &mut copy)?;
         match copy.into_ad() {
             Ok(ad) => Ok(Phrase { ad, expr }),
@@ -173,7 +173,7 @@ impl Draft {
         requires { IsAd (empty_frame 0 ∷ frames_of self.inner.items) }
         ensures { IfOk result (λ ad. ad_frames ad ≡ empty_frame 0 ∷ frames_of self.inner.items) }
     {
-        let root = AdFrame::new(self.alloc, 0);
+        let root = AdFrame::new(self.alloc, self.hashers, 0);
         Ad::from_frames(self.alloc, root, self.inner)
     }
 

@@ -8,8 +8,7 @@ ghost use Rattle.ad_tree.specs.Steady.{MovesNone};
 
 use crate::Expr;
 use crate::attribute::Attribute;
-use crate::hasher::DigestHashers;
-use crate::matching::MatchAttributes;
+use crate::hasher::NameHashers;
 use crate::name_key::NameKey;
 use indexmap::IndexSet;
 use pool_text::{OutOfMemory, Text};
@@ -19,9 +18,16 @@ use std::alloc::Global;
 #[derive(Drop)]
 pub struct AdFrame {
     pub parent: u32,
-    attributes: IndexSet<Attribute, DigestHashers>,
+    attributes: IndexSet<Attribute, NameHashers>,
     ghost apart: { IsTrue (are_apart (names_of (attributes_of attributes.keys))) },
     ghost few: { length attributes.keys < 2 ^ 32 },
+}
+
+/// The places of a frame's requirement and of its rank, where it has them.
+#[derive(Clone, Copy)]
+pub struct MatchAttributes {
+    pub requirement: Option<u32>,
+    pub rank: Option<u32>,
 }
 
 impl AdFrame {
@@ -29,12 +35,12 @@ impl AdFrame {
     ghost use Rattle.ad_tree.specs.Table.{frame_of};
 
     /// No attributes, in an ad literal that stands in this frame.
-    pub fn new(alloc: Global, parent: u32) -> AdFrame
+    pub fn new(alloc: Global, hashers: NameHashers, parent: u32) -> AdFrame
         ensures { frame_of result ≡ record { parent = parent; attributes = [] } }
     {
         AdFrame {
             parent,
-            attributes: IndexSet::with_hasher(alloc, DigestHashers),
+            attributes: IndexSet::with_hasher(alloc, hashers),
         }
     }
 
@@ -60,7 +66,7 @@ impl AdFrame {
         ensures err { OnErr result (frame_of self.new ≡ frame_of self.old) }
         ensures steady { IfOk result (λ is_steady. IsTrue is_steady → MovesNone name (tree expr) (frame_of self.old).attributes) }
     {
-        let attribute = Attribute::new(name, expr);
+        let attribute = Attribute { name, expr };
         if self.attributes.len() >= u32::MAX as usize {
             drop(attribute);
             return Err(OutOfMemory);
@@ -87,7 +93,8 @@ impl AdFrame {
     pub fn position(&self, name: &[u8]) -> Option<u32>
         ensures { result ≡ position (same_name name.now) (names_of (frame_of self.now).attributes) }
     {
-        find(&self.attributes, name).map(|place| place as u32)
+        let key = NameKey { name };
+        self.attributes.get_index_of(key).map(|place| place as u32)
     }
 
     /// The place of the requirement: the attribute `Requirements`, or `Constraint` where there is none.
@@ -111,19 +118,11 @@ impl AdFrame {
     }
 }
 
-// The place of a name in a set.
-#[inline(always)]
-fn find(set: &IndexSet<Attribute, DigestHashers>, name: &[u8]) -> Option<usize>
-    ensures { result ≡ position (same_name name.now) (names_of (attributes_of set.now.keys)) }
-{
-    set.get_index_of(NameKey::new(name))
-}
-
 // Puts an attribute in the place of the one of its name, or behind all. Where one is there, neither has an ad literal if
 // both are leaves. An attribute is large, and an inlined call doesn't move it.
 #[inline(always)]
 fn put(
-    set: &mut IndexSet<Attribute, DigestHashers>,
+    set: &mut IndexSet<Attribute, NameHashers>,
     attribute: Attribute,
 ) -> Result<bool, OutOfMemory>
     ensures ok { OnOk result (attributes_of set.new.keys ≡ put_attribute attribute.name (tree attribute.expr) (attributes_of set.old.keys)) }

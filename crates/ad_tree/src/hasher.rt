@@ -1,41 +1,49 @@
-// Hashers that take a digest as it is.
-ghost use Rattle.ad_tree.specs.Hashers.{kept};
+// Hashers of names. Who writes an ad chooses its names, and must not know which of them meet in a frame's table: so the
+// hashes depend on a seed, and their halves are joined by xor, since sums would let the seed drop out of differences.
+ghost use Rattle.ad_tree.specs.Hashers.{written};
 
 use std::hash::{BuildHasher, Hasher};
 
-/// Makes the hashers of a set of attributes.
-#[derive(Clone, Copy)]
-pub struct DigestHashers;
+/// With a small multiplier, the first letters of a word would tell little.
+const MULTIPLIER: u64 = 6_364_136_223_846_793_005;
 
-/// A hasher that keeps the last number of 64 bits: a digest needs no more mixing.
+/// Makes the hashers of the names of a frame.
 #[derive(Clone, Copy)]
-pub struct DigestHasher {
-    digest: u64,
+pub struct NameHashers {
+    pub seed: u64,
 }
 
-impl BuildHasher for DigestHashers {
-    type Hasher = DigestHasher;
+/// A hasher that begins with a seed, and takes words of 64 bits.
+#[derive(Clone, Copy)]
+pub struct NameHasher {
+    state: u64,
+}
 
-    ghost build_hasher = { λ _. record { digest = 0 } };
+impl BuildHasher for NameHashers {
+    type Hasher = NameHasher;
 
-    fn build_hasher(&self) -> DigestHasher {
-        DigestHasher { digest: 0 }
+    ghost build_hasher = { λ hashers. record { state = hashers.seed } };
+
+    fn build_hasher(&self) -> NameHasher {
+        NameHasher { state: self.seed }
     }
 }
 
-impl Hasher for DigestHasher {
-    ghost write = { kept };
+impl Hasher for NameHasher {
+    ghost write = { written };
 
-    ghost finish = { λ hasher. hasher.digest };
+    ghost finish = { λ hasher. hasher.state };
 
     fn finish(&self) -> u64 {
-        self.digest
+        self.state
     }
 
     #[inline(always)]
     fn write(&mut self, bytes: &[u8]) {
         if let [a, b, c, d, e, f, g, h] = bytes {
-            self.digest = u64::from_le_bytes([*a, *b, *c, *d, *e, *f, *g, *h]);
+            let word = u64::from_le_bytes([*a, *b, *c, *d, *e, *f, *g, *h]);
+            let product = u128::from(self.state ^ word) * u128::from(MULTIPLIER);
+            self.state = (product % (1 << 64)) as u64 ^ (product >> 64) as u64;
         }
     }
 }

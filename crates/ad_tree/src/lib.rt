@@ -9,7 +9,6 @@ mod frame;
 mod hasher;
 mod laws;
 mod literal;
-mod matching;
 mod name_key;
 mod order;
 mod phrase;

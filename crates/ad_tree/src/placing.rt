@@ -143,7 +143,7 @@ fn open(
     ensures { IfOk result (λ number. IsPlaced parent (opened (draft_frames draft.now) turns frame) (frame_numbered number)
         (draft_frames out.old) (draft_frames out.new)) }
 {
-    let at = out.add_frame(parent)?;
+    let at = out.frame(parent)?;
     if turns == 0 {
         return Ok(at);
     }

@@ -1,8 +1,7 @@
 // The frames of an ad. The root stands beside the others: most ads have no others, and then take no memory for them.
 ghost use Rattle.std.specs.Prelude.{◌≡◌, ◌+◌, ◌<◌, ◌^◌, ◌∷◌, length, slice_get, Some};
 
-use crate::frame::AdFrame;
-use crate::matching::MatchAttributes;
+use crate::frame::{AdFrame, MatchAttributes};
 
 /// The frames of an ad by their numbers: its root, which is 0, and the others from 1 on.
 #[derive(Drop)]

@@ -1,5 +1,5 @@
 -- What a search spends.
-use Rattle.std.proofs.Common.{◌≡◌, ◌<◌, ◌≤◌, ◌+◌, ◌*◌, ℕ, List, [], length, take, get_or, sum_by, ◌∙◌, arith}
+use Rattle.std.proofs.Common.{◌≡◌, ◌<◌, ◌≤◌, ◌+◌, ◌*◌, ℕ, List, [], length, take, get_or, sum_by, arith}
 use Rattle.ad_tree.specs.Frames.{Frame}
 use Rattle.conjunct_plan.specs.Tests.{tests_of}
 use Rattle.ad_candidates.specs.Candidates.{AreCandidates}
@@ -7,16 +7,13 @@ use Rattle.ad_candidates.specs.Counts.{least_left}
 use Rattle.dock_match.specs.Pool.{Pool}
 use Rattle.pool_steps.specs.declared.meter.Meter.{Meter}
 use Rattle.pool_steps.specs.Spent.{IsSame, Spends}
+use Rattle.pool_steps.proofs.MeterLemmas.{same-on}
 use Rattle.bilateral_match.specs.Counts.{entered_for, open_count}
 use Rattle.bilateral_match.specs.Scan.{attributes_for, evaluations_for}
 use Rattle.bilateral_match.proofs.LoopLemmas.{ends, stays}
 use Rattle.bilateral_match.proofs.MemberScanLemmas.{entered-sum, open-sum}
 
 module _ {F E T : Type 0} where
-  -- it is the same meter after one part and another
-  pub same-on : {first middle last : Meter F E T} → IsSame first middle → IsSame middle last → IsSame first last
-  same-on before after = record { tops = after.tops ∙ before.tops; entry = after.entry ∙ before.entry; touch = after.touch ∙ before.touch }
-
   -- ---- a loop over places that so much was spent in, up to one of them
 
   module _ (f g : ℕ → ℕ) (xs ys : List ℕ) (are : xs ≡ ys) (i looked total : ℕ) (before now : Meter F E T) (same : IsSame before now)

@@ -5,8 +5,6 @@ use Rattle.ad_tree.specs.Frames.{Frame}
 use Rattle.ad_store.specs.Holdings.{Holding}
 use Rattle.ad_store.specs.Stock.{Advert, Stock}
 use Rattle.ad_store.specs.Store.{stock_of}
-use Rattle.conjunct_plan.specs.Planned.{IsPlanOf}
-use Rattle.conjunct_plan.specs.Tests.{labels_of}
 use Rattle.dock_match.specs.Pool.{Pool, pool_of}
 use Rattle.bilateral_match.specs.declared.scene.QueryScene.{QueryScene}
 use Rattle.bilateral_match.specs.declared.scene.Scene.{Scene}
@@ -22,10 +20,6 @@ pool_in is_offered holding scene = pool_of scene.moment (stock_in scene) (is_off
 -- the job's request
 abbrev pub request_in : {H : Type 0} → Scene H → List Frame
 request_in scene = ad_frames scene.request.now.ad
-
--- its plan is that of the root of the request
-abbrev pub IsPlanned : {H : Type 0} → Scene H → Type 0
-IsPlanned scene = IsPlanOf scene.plan (request_in scene) 0 (labels_of scene.request.now.ports)
 
 -- ---- queries
 

@@ -1,6 +1,5 @@
 // The best resource for a job.
-ghost use Rattle.std.specs.Prelude.{◌≡◌, ◌≤◌, ◌<◌, ◌+◌, ◌*◌, [], false, length, slice_index, sum_by, All, Contains, IfOk, IfSome, option_map};
-ghost use Rattle.std.specs.List.{filter_map};
+ghost use Rattle.std.specs.Prelude.{◌≡◌, ◌≤◌, ◌<◌, ◌+◌, ◌*◌, [], false, length, slice_index, Contains, IfOk, IfSome, option_map};
 ghost use Rattle.ad_tree.specs.Ad.{ad_frames};
 ghost use Rattle.ad_tree.specs.Small.{IsSmall};
 ghost use Rattle.ad_store.specs.Store.{stock_of};
@@ -12,16 +11,15 @@ ghost use Rattle.dock_match.specs.Pool.{AreStored, pool_of};
 ghost use Rattle.dock_match.specs.Small.{AreSmallAds, AreSmallHolders};
 ghost use Rattle.pool_steps.specs.Spent.{IsPaid, Spends};
 ghost use Rattle.bilateral_match.specs.Counts.{entered_for, open_count};
-ghost use Rattle.bilateral_match.specs.Known.{AreKnown, AreRanks, is_known_below, rank_expr};
-ghost use Rattle.bilateral_match.specs.Members.{IsBest, best_slot};
+ghost use Rattle.bilateral_match.specs.Known.{AreKnown};
+ghost use Rattle.bilateral_match.specs.Members.{best_slot};
 ghost use Rattle.bilateral_match.specs.Members as members;
-ghost use Rattle.bilateral_match.specs.Scan as scan;
-ghost use Rattle.bilateral_match.specs.Scenes.{IsPlanned, pool_in, request_in, stock_in};
+ghost use Rattle.bilateral_match.specs.Scenes.{pool_in, request_in, stock_in};
 
-use crate::known::{Known, Ranking};
+use crate::known::Known;
 use crate::looks::Looks;
 use crate::member::Member;
-use crate::members::{member_at, reaches};
+use crate::members::member_at;
 use crate::scene::Scene;
 use ad_candidates::candidates_knowing;
 use ad_store::{Holdings, Store};
@@ -29,7 +27,7 @@ use ad_tree::Request;
 use conjunct_plan::SidePlan;
 use literal_index::Index;
 use pool_steps::{Meter, Steps};
-use pool_text::{OutOfMemory, Slots};
+use pool_text::OutOfMemory;
 use std::alloc::Global;
 use std::convert::AsSlice;
 use std::sync::ledger::Ledger;
@@ -89,7 +87,7 @@ pub fn best<'a, H: Holdings, F: Ledger, E: Ledger, T: Ledger>(
     let mut known = Known::new(alloc);
     let mut looks = Looks::none();
     let mut meter = Meter::new(tops, entry, touch);
-    best_in(&scene, &mut known, &mut looks, &mut meter)
+    best_knowing(&scene, &mut known, &mut looks, &mut meter)
 }
 
 /// The same slot as `best`, found with what is known of ranks: a resource whose rank by the job is known, and lower than that of
@@ -97,57 +95,7 @@ pub fn best<'a, H: Holdings, F: Ledger, E: Ledger, T: Ledger>(
 /// resource's literals settle them, so that each is evaluated once for all jobs with the same rank expression.
 ///
 /// It counts no more than `best` may, and adds to `looks.saved` what it knows of the looks that `best` may make and it doesn't.
-pub fn best_knowing<'a, H: Holdings, F: Ledger, E: Ledger, T: Ledger>(
-    alloc: Global,
-    store: &Store,
-    index: &Index,
-    held: &H,
-    request: &Request,
-    number: u64,
-    moment: u64,
-    known: &mut Known,
-    looks: &mut Looks,
-    tops: &'a mut Steps<F>,
-    entry: &'a mut Steps<E>,
-    touch: &'a mut Steps<T>,
-) -> Result<Option<usize>, OutOfMemory>
-    requires index { IsIndex index.now (rows_of (stock_of store.now)) }
-    requires stored { AreStored (stock_of store.now) (H.holding held.now) }
-    requires single { request.now.ports ≡ [] }
-    requires known { AreKnown moment (stock_of store.now).ads known.old }
-    ensures known { AreKnown moment (stock_of store.now).ads known.new }
-    ensures best { IfOk result (λ slot. slot
-        ≡ best_slot (stock_of store.now) (pool_of moment (stock_of store.now) (H.is_offered held.now) (H.holding held.now)) (ad_frames request.now.ad) number) }
-    ensures held { IfOk result (λ slot. IfSome slot (Contains (stock_of store.now).slots)) }
-    ensures free { IfOk result (λ slot. IfSome slot (λ s. H.is_offered held.now s ≡ false)) }
-    ensures evaluations { tops.new ≤ tops.old
-        + 5 * open_count (pool_of moment (stock_of store.now) (H.is_offered held.now) (H.holding held.now)) (ad_frames request.now.ad) }
-    ensures entries { entry.new ≤ entry.old
-        + entered_for (pool_of moment (stock_of store.now) (H.is_offered held.now) (H.holding held.now)) (ad_frames request.now.ad) }
-    ensures ratio { IsSmall (ad_frames request.now.ad) → AreSmallAds (stock_of store.now).ads → AreSmallHolders (H.holding held.now)
-        → entry.new + 9216 * tops.old ≤ entry.old + 9216 * tops.new }
-    ensures looks { touch.new ≤ touch.old
-        + 9 * least_left (stock_of store.now).ads (tests_of (ad_frames request.now.ad) 0 []) }
-    ensures saved { touch.new + looks.new.saved ≤ touch.old + looks.old.saved
-        + 9 * least_left (stock_of store.now).ads (tests_of (ad_frames request.now.ad) 0 []) }
-{
-    let plan = SidePlan::of(alloc, &request.ad, 0, &request.ports)?;
-    let scene = Scene {
-        alloc,
-        store,
-        index,
-        held,
-        request,
-        plan,
-        number,
-        moment,
-    };
-    let mut meter = Meter::new(tops, entry, touch);
-    best_in(&scene, known, looks, &mut meter)
-}
-
-// The slot of the best resource of a scene, found with what is known.
-fn best_in<H: Holdings, F: Ledger, E: Ledger, T: Ledger>(
+pub fn best_knowing<H: Holdings, F: Ledger, E: Ledger, T: Ledger>(
     scene: &Scene<'_, H>,
     known: &mut Known,
     looks: &mut Looks,
@@ -156,7 +104,6 @@ fn best_in<H: Holdings, F: Ledger, E: Ledger, T: Ledger>(
     requires index { IsIndex scene.now.index.now (rows_of (stock_in scene.now)) }
     requires stored { AreStored (stock_in scene.now) (H.holding scene.now.held.now) }
     requires single { scene.now.request.now.ports ≡ [] }
-    requires planned { IsPlanned scene.now }
     requires known { AreKnown scene.now.moment (stock_in scene.now).ads known.old }
     ensures known { AreKnown scene.now.moment (stock_in scene.now).ads known.new }
     ensures best { IfOk result (λ slot. slot
@@ -181,7 +128,12 @@ fn best_in<H: Holdings, F: Ledger, E: Ledger, T: Ledger>(
     )?;
     looks.begin(places.len());
     let mut ranking = known.take(scene.alloc, scene.store.len(), request)?;
-    let first = first_at(scene, &places, &mut ranking, looks, meter)?;
+    let mut first = None;
+    for place in places.as_slice() {
+        let bar = rank_of(&first);
+        let next = member_at(scene, *place, bar, &mut ranking, looks, meter)?;
+        first = earlier(first, next);
+    }
     known.keep(request, ranking)?;
     Ok(slot_of(scene.store, first))
 }
@@ -194,78 +146,6 @@ fn slot_of(store: &Store, member: Option<Member>) -> Option<usize>
 {
     let member = member?;
     Some(store.at(member.place))
-}
-
-// The first of the members at these places.
-fn first_at<H: Holdings, F: Ledger, E: Ledger, T: Ledger>(
-    scene: &Scene<'_, H>,
-    places: &Slots,
-    ranking: &mut Ranking,
-    looks: &mut Looks,
-    meter: &mut Meter<'_, F, E, T>,
-) -> Result<Option<Member>, OutOfMemory>
-    requires stored { AreStored (stock_in scene.now) (H.holding scene.now.held.now) }
-    requires single { scene.now.request.now.ports ≡ [] }
-    requires planned { IsPlanned scene.now }
-    requires places { All (λ place. place < length (stock_in scene.now).slots) places.now }
-    requires ranks { AreRanks scene.now.moment (stock_in scene.now).ads (rank_expr (request_in scene.now)) ranking.old.ranks.items }
-    ensures ranks { AreRanks scene.now.moment (stock_in scene.now).ads (rank_expr (request_in scene.now)) ranking.new.ranks.items }
-    ensures first { IfOk result (λ first. IsBest (filter_map
-        (scan.member_at (pool_in H.is_offered H.holding scene.now) (request_in scene.now) scene.now.number) places.now) first) }
-    ensures spent { Spends meter.old meter.new
-        (sum_by (scan.evaluations_for (pool_in H.is_offered H.holding scene.now) (request_in scene.now)) places.now)
-        (sum_by (scan.attributes_for (pool_in H.is_offered H.holding scene.now) (request_in scene.now)) places.now) (9 * length places.now) }
-    ensures ratio { IsSmall (request_in scene.now) → AreSmallAds (stock_in scene.now).ads → AreSmallHolders (H.holding scene.now.held.now)
-        → IsPaid meter.old meter.new }
-    ensures saved { meter.new.touch.now + looks.new.saved ≤ meter.old.touch.now + looks.old.saved + 9 * length places.now }
-{
-    let mut first = None;
-    for place in places.as_slice() {
-        let bar = rank_of(&first);
-        let next = next_at(scene, *place, bar, ranking, looks, meter)?;
-        first = earlier(first, next);
-    }
-    Ok(first)
-}
-
-// The resource at a place, as `member_at` has it: nothing is looked at where its rank is known not to reach the bar.
-fn next_at<H: Holdings, F: Ledger, E: Ledger, T: Ledger>(
-    scene: &Scene<'_, H>,
-    place: usize,
-    bar: Option<i128>,
-    ranking: &mut Ranking,
-    looks: &mut Looks,
-    meter: &mut Meter<'_, F, E, T>,
-) -> Result<Option<Member>, OutOfMemory>
-    requires stored { AreStored (stock_in scene.now) (H.holding scene.now.held.now) }
-    requires single { scene.now.request.now.ports ≡ [] }
-    requires planned { IsPlanned scene.now }
-    requires place { place < length (stock_in scene.now).slots }
-    requires ranks { AreRanks scene.now.moment (stock_in scene.now).ads (rank_expr (request_in scene.now)) ranking.old.ranks.items }
-    ensures ranks { AreRanks scene.now.moment (stock_in scene.now).ads (rank_expr (request_in scene.now)) ranking.new.ranks.items }
-    ensures member { IfOk result (λ member. member ≡ scan.member_above bar
-        (scan.member_at (pool_in H.is_offered H.holding scene.now) (request_in scene.now) scene.now.number place)) }
-    ensures spent { Spends meter.old meter.new (scan.evaluations_for (pool_in H.is_offered H.holding scene.now) (request_in scene.now) place)
-        (scan.attributes_for (pool_in H.is_offered H.holding scene.now) (request_in scene.now) place) 9 }
-    ensures ratio { IsSmall (request_in scene.now) → AreSmallAds (stock_in scene.now).ads → AreSmallHolders (H.holding scene.now.held.now)
-        → IsPaid meter.old meter.new }
-    ensures saved { meter.new.touch.now + looks.new.saved ≤ meter.old.touch.now + looks.old.saved + 9 }
-{
-    if is_known_below(bar, ranking.at(place)) {
-        looks.save(9);
-        return Ok(None);
-    }
-    member_at(scene, place, bar, ranking, looks, meter)
-}
-
-// Whether a rank is known not to reach the bar.
-fn is_known_below(bar: Option<i128>, rank: Option<i128>) -> bool
-    ensures { result ≡ is_known_below bar rank }
-{
-    match rank {
-        Some(rank) => !reaches(bar, rank),
-        None => false,
-    }
 }
 
 // The rank of a member by the job, which any that comes before it reaches.

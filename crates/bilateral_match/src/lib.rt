@@ -26,4 +26,5 @@ pub use laws::{
 pub use looks::Looks;
 pub use member::Member;
 pub use querying::query;
+pub use scene::Scene;
 pub use shortlists::shortlist;

@@ -11,9 +11,9 @@ ghost use Rattle.dock_match.specs.Docks.{is_undecided, last_open, pair_world, ra
 ghost use Rattle.dock_match.specs.Pool.{AreStored};
 ghost use Rattle.dock_match.specs.Small.{AreSmallAds, AreSmallHolders};
 ghost use Rattle.pool_steps.specs.Spent.{IsPaid, Spends};
-ghost use Rattle.bilateral_match.specs.Known.{AreRanks, rank_expr};
+ghost use Rattle.bilateral_match.specs.Known.{AreRanks, is_known_below, rank_expr};
 ghost use Rattle.bilateral_match.specs.Scan as scan;
-ghost use Rattle.bilateral_match.specs.Scenes.{IsPlanned, pool_in, request_in, stock_in};
+ghost use Rattle.bilateral_match.specs.Scenes.{pool_in, request_in, stock_in};
 
 use crate::known::Ranking;
 use crate::looks::Looks;
@@ -22,16 +22,16 @@ use crate::scene::Scene;
 use ad_eval::rank;
 use ad_store::Holdings;
 use ad_tree::Ad;
-use dock_match::{OpenSides, Preemption, open_sides_by_plan, won_from};
+use dock_match::{Claimant, OpenSides, Preemption, open_sides_by_plan, won_from};
 use eval_scope::World;
-use pool_steps::{Meter, Steps};
+use pool_steps::Meter;
 use pool_text::OutOfMemory;
 use std::alloc::Global;
 use std::sync::ledger::Ledger;
 
 /// The resource at a place, if it is a member for the job, and the job ranks it no lower than the bar, where there is one. A
-/// resource below the bar isn't asked how it ranks the job, nor is its holder. The job's rank is noted in the ranking, and what the
-/// looks come to in `looks`.
+/// resource below the bar isn't asked how it ranks the job, nor is its holder, and nothing is looked at where the rank is known
+/// to be below. The job's rank is noted in the ranking, and what the looks come to in `looks`.
 pub fn member_at<H: Holdings, F: Ledger, E: Ledger, T: Ledger>(
     scene: &Scene<'_, H>,
     place: usize,
@@ -42,7 +42,6 @@ pub fn member_at<H: Holdings, F: Ledger, E: Ledger, T: Ledger>(
 ) -> Result<Option<Member>, OutOfMemory>
     requires stored { AreStored (stock_in scene.now) (H.holding scene.now.held.now) }
     requires single { scene.now.request.now.ports ≡ [] }
-    requires planned { IsPlanned scene.now }
     requires place { place < length (stock_in scene.now).slots }
     requires ranks { AreRanks scene.now.moment (stock_in scene.now).ads (rank_expr (request_in scene.now)) ranking.old.ranks.items }
     ensures ranks { AreRanks scene.now.moment (stock_in scene.now).ads (rank_expr (request_in scene.now)) ranking.new.ranks.items }
@@ -54,6 +53,11 @@ pub fn member_at<H: Holdings, F: Ledger, E: Ledger, T: Ledger>(
         → IsPaid meter.old meter.new }
     ensures saved { meter.new.touch.now + looks.new.saved ≤ meter.old.touch.now + looks.old.saved + 9 }
 {
+    let known = ranking.at(place);
+    if is_known_below(bar, known) {
+        looks.save(9);
+        return Ok(None);
+    }
     let slot = scene.store.at(place);
     if scene.held.offered(slot) {
         return Ok(None);
@@ -63,7 +67,6 @@ pub fn member_at<H: Holdings, F: Ledger, E: Ledger, T: Ledger>(
     }
     let ad = scene.store.look(slot, meter.touch);
     looks.weigh();
-    let known = ranking.at(place);
     let weighed = ranks(scene, ad, bar, known, meter)?;
     ranking.note(&scene.request.ad, ad, place, weighed.rank);
     let Some(ranks) = weighed.ranks else {
@@ -72,16 +75,17 @@ pub fn member_at<H: Holdings, F: Ledger, E: Ledger, T: Ledger>(
     };
     let holder = scene.held.holder(slot);
     looks.save_unless_held(&holder);
+    let claimant = Claimant {
+        rank: ranks.regard,
+        number: scene.number,
+    };
     let won = won_from(
         scene.alloc,
         scene.store,
-        holder,
-        ranks.regard,
-        scene.number,
         scene.moment,
-        meter.tops,
-        meter.entry,
-        meter.touch,
+        holder,
+        claimant,
+        meter,
     );
     where_won(won, ranks, place)
 }
@@ -130,7 +134,6 @@ fn ranks<H: Holdings, F: Ledger, E: Ledger, T: Ledger>(
     meter: &mut Meter<'_, F, E, T>,
 ) -> Result<Weighed, OutOfMemory>
     requires single { scene.now.request.now.ports ≡ [] }
-    requires planned { IsPlanned scene.now }
     requires known { IfSome known (λ n. n ≡ rank_of_dock scene.now.moment (request_in scene.now) (ad_frames ad.now)) }
     ensures ranks { IfOk result (λ weighed. weighed.ranks
         ≡ scan.ranks_above bar (scan.ranks_of_dock scene.now.moment (request_in scene.now) (ad_frames ad.now))) }
@@ -175,7 +178,10 @@ fn ranks_in<F: Ledger, E: Ledger, T: Ledger>(
             ranks: None,
         });
     }
-    let given = given_rank(alloc, world, known, meter.tops, meter.entry)?;
+    let given = match known {
+        Some(given) => given,
+        None => rank(alloc, world, world.request_place(), meter.tops, meter.entry)?,
+    };
     if !reaches(bar, given) {
         return Ok(Weighed {
             rank: Some(given),
@@ -198,28 +204,18 @@ fn ranks_in<F: Ledger, E: Ledger, T: Ledger>(
     })
 }
 
-// The rank by the request of the ad that was docked last, which is evaluated unless it is known.
-fn given_rank<F: Ledger, E: Ledger>(
-    alloc: Global,
-    world: &World<'_>,
-    known: Option<i128>,
-    tops: &mut Steps<F>,
-    entry: &mut Steps<E>,
-) -> Result<i128, OutOfMemory>
-    requires { IfSome known (λ n. n ≡ rank_by (world_of world.now) (request_side (world_of world.now))) }
-    ensures rank { IfOk result (λ n. n ≡ rank_by (world_of world.now) (request_side (world_of world.now))) }
-    ensures evaluations { tops.new ≤ tops.old + 1 }
-    ensures entries { entry.new ≤ entry.old + attribute_count (world_of world.now) }
-    ensures ratio { AreSmall (world_of world.now) → entry.new + 9216 * tops.old ≤ entry.old + 9216 * tops.new }
+// Whether a rank is known not to reach the bar.
+fn is_known_below(bar: Option<i128>, rank: Option<i128>) -> bool
+    ensures { result ≡ is_known_below bar rank }
 {
-    match known {
-        Some(given) => Ok(given),
-        None => rank(alloc, world, world.request_place(), tops, entry),
+    match rank {
+        Some(rank) => !reaches(bar, rank),
+        None => false,
     }
 }
 
-/// Whether a rank is no lower than the bar, where there is one.
-pub(crate) fn reaches(bar: Option<i128>, rank: i128) -> bool
+// Whether a rank is no lower than the bar, where there is one.
+fn reaches(bar: Option<i128>, rank: i128) -> bool
     ensures { result ≡ scan.reaches bar rank }
 {
     match bar {

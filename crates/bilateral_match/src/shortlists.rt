@@ -1,21 +1,20 @@
 // The members for a job in order.
-ghost use Rattle.std.specs.Prelude.{◌≡◌, ◌≤◌, ◌<◌, ◌+◌, ◌*◌, ◌++◌, [], length, map, sum_by, All, Contains, IfOk, OnOk};
+ghost use Rattle.std.specs.Prelude.{◌≡◌, ◌<◌, ◌*◌, ◌++◌, [], length, map, sum_by, All, Contains, IfOk, OnOk};
 ghost use Rattle.std.specs.List.{cons_option, filter_map};
 ghost use Rattle.std.specs.List.Sorted.{IsPermutation, IsSorted};
-ghost use Rattle.ad_tree.specs.Ad.{ad_frames};
 ghost use Rattle.ad_tree.specs.Small.{IsSmall};
 ghost use Rattle.ad_store.specs.Store.{stock_of};
 ghost use Rattle.conjunct_plan.specs.Tests.{tests_of};
 ghost use Rattle.literal_index.specs.Shown.{IsIndex};
 ghost use Rattle.ad_candidates.specs.Counts.{least_left};
 ghost use Rattle.ad_candidates.specs.Rows.{rows_of};
-ghost use Rattle.dock_match.specs.Pool.{AreStored, pool_of, slot_at};
+ghost use Rattle.dock_match.specs.Pool.{AreStored, slot_at};
 ghost use Rattle.dock_match.specs.Small.{AreSmallAds, AreSmallHolders};
 ghost use Rattle.pool_steps.specs.Spent.{IsPaid, Spends};
 ghost use Rattle.bilateral_match.specs.Counts.{entered_for, open_count};
 ghost use Rattle.bilateral_match.specs.Members.{member_order};
 ghost use Rattle.bilateral_match.specs.Scan as scan;
-ghost use Rattle.bilateral_match.specs.Scenes.{IsPlanned, pool_in, request_in, stock_in};
+ghost use Rattle.bilateral_match.specs.Scenes.{pool_in, request_in, stock_in};
 ghost use Rattle.bilateral_match.specs.Shortlists.{AreInOrder, IsShortlist};
 
 use crate::known::Ranking;
@@ -25,10 +24,7 @@ use crate::members::member_at;
 use crate::scene::Scene;
 use ad_candidates::candidates;
 use ad_store::{Holdings, Store};
-use ad_tree::Request;
-use conjunct_plan::SidePlan;
-use literal_index::Index;
-use pool_steps::{Meter, Steps};
+use pool_steps::Meter;
 use pool_text::{OutOfMemory, Slots};
 use std::alloc::Global;
 use std::convert::AsSlice;
@@ -40,47 +36,25 @@ use std::sync::ledger::Ledger;
 /// HTCondor's negotiator do.
 ///
 /// It takes what `best` takes, and counts no more: each ad that is looked at is weighed once.
-pub fn shortlist<'a, H: Holdings, F: Ledger, E: Ledger, T: Ledger>(
-    alloc: Global,
-    store: &Store,
-    index: &Index,
-    held: &H,
-    request: &Request,
-    number: u64,
-    moment: u64,
-    tops: &'a mut Steps<F>,
-    entry: &'a mut Steps<E>,
-    touch: &'a mut Steps<T>,
+pub fn shortlist<H: Holdings, F: Ledger, E: Ledger, T: Ledger>(
+    scene: &Scene<'_, H>,
+    meter: &mut Meter<'_, F, E, T>,
 ) -> Result<Slots, OutOfMemory>
-    requires index { IsIndex index.now (rows_of (stock_of store.now)) }
-    requires stored { AreStored (stock_of store.now) (H.holding held.now) }
-    requires single { request.now.ports ≡ [] }
-    ensures best { IfOk result (IsShortlist moment (stock_of store.now) (H.is_offered held.now) (H.holding held.now) (ad_frames request.now.ad) number) }
-    ensures held { IfOk result (All (Contains (stock_of store.now).slots)) }
-    ensures evaluations { tops.new ≤ tops.old
-        + 5 * open_count (pool_of moment (stock_of store.now) (H.is_offered held.now) (H.holding held.now)) (ad_frames request.now.ad) }
-    ensures entries { entry.new ≤ entry.old
-        + entered_for (pool_of moment (stock_of store.now) (H.is_offered held.now) (H.holding held.now)) (ad_frames request.now.ad) }
-    ensures ratio { IsSmall (ad_frames request.now.ad) → AreSmallAds (stock_of store.now).ads → AreSmallHolders (H.holding held.now)
-        → entry.new + 9216 * tops.old ≤ entry.old + 9216 * tops.new }
-    ensures looks { touch.new ≤ touch.old
-        + 9 * least_left (stock_of store.now).ads (tests_of (ad_frames request.now.ad) 0 []) }
+    requires index { IsIndex scene.now.index.now (rows_of (stock_in scene.now)) }
+    requires stored { AreStored (stock_in scene.now) (H.holding scene.now.held.now) }
+    requires single { scene.now.request.now.ports ≡ [] }
+    ensures best { IfOk result (IsShortlist scene.now.moment (stock_in scene.now) (H.is_offered scene.now.held.now) (H.holding scene.now.held.now)
+        (request_in scene.now) scene.now.number) }
+    ensures held { IfOk result (All (Contains (stock_in scene.now).slots)) }
+    ensures spent { Spends meter.old meter.new (5 * open_count (pool_in H.is_offered H.holding scene.now) (request_in scene.now))
+        (entered_for (pool_in H.is_offered H.holding scene.now) (request_in scene.now))
+        (9 * least_left (stock_in scene.now).ads (tests_of (request_in scene.now) 0 [])) }
+    ensures ratio { IsSmall (request_in scene.now) → AreSmallAds (stock_in scene.now).ads → AreSmallHolders (H.holding scene.now.held.now)
+        → IsPaid meter.old meter.new }
 {
-    let plan = SidePlan::of(alloc, &request.ad, 0, &request.ports)?;
-    let scene = Scene {
-        alloc,
-        store,
-        index,
-        held,
-        request,
-        plan,
-        number,
-        moment,
-    };
-    let mut meter = Meter::new(tops, entry, touch);
-    let places = candidates(alloc, store, index, request)?;
-    let found = members_at(&scene, &places, &mut meter)?;
-    slots_in_order(alloc, store, found)
+    let places = candidates(scene.alloc, scene.store, scene.index, scene.request)?;
+    let found = members_at(scene, &places, meter)?;
+    slots_in_order(scene.alloc, scene.store, found)
 }
 
 // The slots of members, with the members in order.
@@ -102,7 +76,6 @@ fn members_at<H: Holdings, F: Ledger, E: Ledger, T: Ledger>(
 ) -> Result<Vec<Member>, OutOfMemory>
     requires stored { AreStored (stock_in scene.now) (H.holding scene.now.held.now) }
     requires single { scene.now.request.now.ports ≡ [] }
-    requires planned { IsPlanned scene.now }
     requires places { All (λ place. place < length (stock_in scene.now).slots) places.now }
     ensures found { IfOk result (λ found. found.items ≡ filter_map
         (scan.member_at (pool_in H.is_offered H.holding scene.now) (request_in scene.now) scene.now.number) places.now) }

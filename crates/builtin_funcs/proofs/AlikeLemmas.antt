@@ -116,123 +116,136 @@ flat-itself (ad_at place) h = absurd (cc)
 pub flat-alike : {M : AdPlace → AdPlace → Type 0} (v w : Plain) → is_flat v ≡ true → v ≡ w → Alike M v w
 flat-alike v w flat same = rw (← same) (flat-itself v flat)
 
--- ---- results of operators hold no place
+-- ---- results of operators have no parts
 
-pub either-flat : (b : Bool) (v w : Plain) → is_flat v ≡ true → is_flat w ≡ true → is_flat (cond b v w) ≡ true
-either-flat true v w h k = h
-either-flat false v w h k = k
+-- a value that has no parts: neither letters nor elements nor a place
+abbrev pub is_single : Plain → Bool
+is_single (text bytes) = false
+is_single (list items) = false
+is_single (ad_at place) = false
+is_single value = true
 
-pub integer_or_error-flat : (z : ℤ) → is_flat (integer_or_error z) ≡ true
-integer_or_error-flat (pos n) = either-flat (ltb n (2 ^ 63)) (integer (pos n)) error refl refl
-integer_or_error-flat (negsuc n) = either-flat (ltb n (2 ^ 63)) (integer (negsuc n)) error refl refl
+pub single-flat : (v : Plain) → is_single v ≡ true → is_flat v ≡ true
+single-flat (text bytes) h = refl
+single-flat (list items) h = h
+single-flat (ad_at place) h = h
+single-flat v h = refl
 
-pub decimal_or_error-flat : (z : ℤ) → is_flat (decimal_or_error z) ≡ true
-decimal_or_error-flat (pos m) = either-flat (ltb m (2 ^ 63)) (decimal (pos m)) error refl refl
-decimal_or_error-flat (negsuc m) = either-flat (ltb m (2 ^ 63)) (decimal (negsuc m)) error refl refl
+pub either-holds : (p : Plain → Bool) (b : Bool) (v w : Plain) → p v ≡ true → p w ≡ true → p (cond b v w) ≡ true
+either-holds p true v w h k = h
+either-holds p false v w h k = k
 
-shifted-flat : (shift : ℕ → ℤ) (z : ℤ) → is_flat (shifted shift z) ≡ true
-shifted-flat shift (pos n) = either-flat (ltb n 64) (integer (shift n)) error refl refl
-shifted-flat shift (negsuc n) = refl
+pub integer_or_error-single : (z : ℤ) → is_single (integer_or_error z) ≡ true
+integer_or_error-single (pos n) = either-holds is_single (ltb n (2 ^ 63)) (integer (pos n)) error refl refl
+integer_or_error-single (negsuc n) = either-holds is_single (ltb n (2 ^ 63)) (integer (negsuc n)) error refl refl
 
-divided-flat : (v : Plain) (z : ℤ) → is_flat v ≡ true → is_flat (divided v z) ≡ true
-divided-flat v z h = either-flat (int_eq z (pos 0)) error v refl h
+pub decimal_or_error-single : (z : ℤ) → is_single (decimal_or_error z) ≡ true
+decimal_or_error-single (pos m) = either-holds is_single (ltb m (2 ^ 63)) (decimal (pos m)) error refl refl
+decimal_or_error-single (negsuc m) = either-holds is_single (ltb m (2 ^ 63)) (decimal (negsuc m)) error refl refl
 
-integer_row-flat : (op : BinOp) (x y : ℤ) → is_flat (integer_row op x y) ≡ true
-integer_row-flat BinOp.ShiftLeft x y = shifted-flat (int_shl w64 x) y
-integer_row-flat BinOp.ShiftRight x y = shifted-flat (int_shr x) y
-integer_row-flat BinOp.ShiftZero x y = shifted-flat (λ n. cast_signed w64 (cast_unsigned w64 x / 2 ^ n)) y
-integer_row-flat BinOp.Add x y = integer_or_error-flat (x +ℤ y)
-integer_row-flat BinOp.Sub x y = integer_or_error-flat (x -ℤ y)
-integer_row-flat BinOp.Mul x y = integer_or_error-flat (x *ℤ y)
-integer_row-flat BinOp.Div x y = divided-flat (integer_or_error (int_div x y)) y (integer_or_error-flat (int_div x y))
-integer_row-flat BinOp.Rem x y = divided-flat (integer (int_rem x y)) y refl
-integer_row-flat op x y = refl
+shifted-single : (shift : ℕ → ℤ) (z : ℤ) → is_single (shifted shift z) ≡ true
+shifted-single shift (pos n) = either-holds is_single (ltb n 64) (integer (shift n)) error refl refl
+shifted-single shift (negsuc n) = refl
 
-decimal_row-flat : (op : BinOp) (x y : ℤ) → is_flat (decimal_row op x y) ≡ true
-decimal_row-flat BinOp.Add x y = decimal_or_error-flat (x +ℤ y)
-decimal_row-flat BinOp.Sub x y = decimal_or_error-flat (x -ℤ y)
-decimal_row-flat BinOp.Mul x y = decimal_or_error-flat (int_div (x *ℤ y) million)
-decimal_row-flat BinOp.Div x y = divided-flat (decimal_or_error (int_div (x *ℤ million) y)) y (decimal_or_error-flat (int_div (x *ℤ million) y))
-decimal_row-flat BinOp.Rem x y = divided-flat (decimal (int_rem x y)) y refl
-decimal_row-flat op x y = refl
+divided-single : (v : Plain) (z : ℤ) → is_single v ≡ true → is_single (divided v z) ≡ true
+divided-single v z h = either-holds is_single (int_eq z (pos 0)) error v refl h
 
-number_row-flat : (op : BinOp) (x y : Number) → is_flat (number_row op x y) ≡ true
-number_row-flat op (Number.Whole x) (Number.Whole y) = integer_row-flat op x y
-number_row-flat op x y = decimal_row-flat op (in_millionths x) (in_millionths y)
+integer_row-single : (op : BinOp) (x y : ℤ) → is_single (integer_row op x y) ≡ true
+integer_row-single BinOp.ShiftLeft x y = shifted-single (int_shl w64 x) y
+integer_row-single BinOp.ShiftRight x y = shifted-single (int_shr x) y
+integer_row-single BinOp.ShiftZero x y = shifted-single (λ n. cast_signed w64 (cast_unsigned w64 x / 2 ^ n)) y
+integer_row-single BinOp.Add x y = integer_or_error-single (x +ℤ y)
+integer_row-single BinOp.Sub x y = integer_or_error-single (x -ℤ y)
+integer_row-single BinOp.Mul x y = integer_or_error-single (x *ℤ y)
+integer_row-single BinOp.Div x y = divided-single (integer_or_error (int_div x y)) y (integer_or_error-single (int_div x y))
+integer_row-single BinOp.Rem x y = divided-single (integer (int_rem x y)) y refl
+integer_row-single op x y = refl
 
-on_numbers-flat : (row : Number → Number → Plain) → ((x y : Number) → is_flat (row x y) ≡ true) → (o p : Option Number) → is_flat (on_numbers row o p) ≡ true
-on_numbers-flat row h (Some x) (Some y) = h x y
-on_numbers-flat row h (Some x) None = refl
-on_numbers-flat row h None p = refl
+decimal_row-single : (op : BinOp) (x y : ℤ) → is_single (decimal_row op x y) ≡ true
+decimal_row-single BinOp.Add x y = decimal_or_error-single (x +ℤ y)
+decimal_row-single BinOp.Sub x y = decimal_or_error-single (x -ℤ y)
+decimal_row-single BinOp.Mul x y = decimal_or_error-single (int_div (x *ℤ y) million)
+decimal_row-single BinOp.Div x y = divided-single (decimal_or_error (int_div (x *ℤ million) y)) y (decimal_or_error-single (int_div (x *ℤ million) y))
+decimal_row-single BinOp.Rem x y = divided-single (decimal (int_rem x y)) y refl
+decimal_row-single op x y = refl
 
-text_row-flat : (op : BinOp) (a b : List ℕ) → is_flat (text_row op a b) ≡ true
-text_row-flat BinOp.Equal a b = refl
-text_row-flat op a b = refl
+number_row-single : (op : BinOp) (x y : Number) → is_single (number_row op x y) ≡ true
+number_row-single op (Number.Whole x) (Number.Whole y) = integer_row-single op x y
+number_row-single op x y = decimal_row-single op (in_millionths x) (in_millionths y)
 
-strict_row-flat : (op : BinOp) (v w : Plain) → is_flat (strict_row op v w) ≡ true
-strict_row-flat op (text a) (text b) = text_row-flat op a b
-strict_row-flat op v w = on_numbers-flat (number_row op) (number_row-flat op) (number_of v) (number_of w)
+on_numbers-single : (row : Number → Number → Plain) → ((x y : Number) → is_single (row x y) ≡ true) → (o p : Option Number) → is_single (on_numbers row o p) ≡ true
+on_numbers-single row h (Some x) (Some y) = h x y
+on_numbers-single row h (Some x) None = refl
+on_numbers-single row h None p = refl
 
-strict-flat : (row : Plain → Plain → Plain) → ((v w : Plain) → is_flat (row v w) ≡ true) → (v w : Plain) → is_flat (strict row v w) ≡ true
-strict-flat row h error w = refl
-strict-flat row h v error = refl
-strict-flat row h undefined w = refl
-strict-flat row h v undefined = refl
-strict-flat row h v w = h v w
+text_row-single : (op : BinOp) (a b : List ℕ) → is_single (text_row op a b) ≡ true
+text_row-single BinOp.Equal a b = refl
+text_row-single op a b = refl
 
-pub binary-flat : (op : BinOp) (v w : Plain) → is_flat (binary_value op v w) ≡ true
-binary-flat BinOp.Same v w = refl
-binary-flat BinOp.NotSame v w = refl
-binary-flat op v w = strict-flat (strict_row op) (strict_row-flat op) v w
+strict_row-single : (op : BinOp) (v w : Plain) → is_single (strict_row op v w) ≡ true
+strict_row-single op (text a) (text b) = text_row-single op a b
+strict_row-single op v w = on_numbers-single (number_row op) (number_row-single op) (number_of v) (number_of w)
 
-pub on_number-flat : (row : Number → Plain) → ((x : Number) → is_flat (row x) ≡ true) → (o : Option Number) → is_flat (on_number row o) ≡ true
-on_number-flat row h (Some x) = h x
-on_number-flat row h None = refl
+strict-single : (row : Plain → Plain → Plain) → ((v w : Plain) → is_single (row v w) ≡ true) → (v w : Plain) → is_single (strict row v w) ≡ true
+strict-single row h error w = refl
+strict-single row h v error = refl
+strict-single row h undefined w = refl
+strict-single row h v undefined = refl
+strict-single row h v w = h v w
 
-number_value-flat : (x : Number) → is_flat (number_value x) ≡ true
-number_value-flat (Number.Whole n) = refl
-number_value-flat (Number.Millionths m) = refl
+pub binary-single : (op : BinOp) (v w : Plain) → is_single (binary_value op v w) ≡ true
+binary-single BinOp.Same v w = refl
+binary-single BinOp.NotSame v w = refl
+binary-single op v w = strict-single (strict_row op) (strict_row-single op) v w
 
-negation-flat : (x : Number) → is_flat (negation x) ≡ true
-negation-flat (Number.Whole n) = integer_or_error-flat (neg_ℤ n)
-negation-flat (Number.Millionths m) = decimal_or_error-flat (neg_ℤ m)
+pub on_number-single : (row : Number → Plain) → ((x : Number) → is_single (row x) ≡ true) → (o : Option Number) → is_single (on_number row o) ≡ true
+on_number-single row h (Some x) = h x
+on_number-single row h None = refl
 
-complement-flat : (x : Number) → is_flat (complement x) ≡ true
-complement-flat (Number.Whole n) = refl
-complement-flat (Number.Millionths m) = refl
+number_value-single : (x : Number) → is_single (number_value x) ≡ true
+number_value-single (Number.Whole n) = refl
+number_value-single (Number.Millionths m) = refl
 
-negated-flat : (v : Plain) → is_flat (negated_value v) ≡ true
-negated-flat (boolean b) = refl
-negated-flat v = refl
+negation-single : (x : Number) → is_single (negation x) ≡ true
+negation-single (Number.Whole n) = integer_or_error-single (neg_ℤ n)
+negation-single (Number.Millionths m) = decimal_or_error-single (neg_ℤ m)
 
-unary_row-flat : (op : UnOp) (v : Plain) → is_flat (unary_row op v) ≡ true
-unary_row-flat UnOp.Plus v = on_number-flat number_value number_value-flat (number_of v)
-unary_row-flat UnOp.Minus v = on_number-flat negation negation-flat (number_of v)
-unary_row-flat UnOp.Not v = negated-flat v
-unary_row-flat UnOp.Complement v = on_number-flat complement complement-flat (number_of v)
+complement-single : (x : Number) → is_single (complement x) ≡ true
+complement-single (Number.Whole n) = refl
+complement-single (Number.Millionths m) = refl
 
-unary-flat : (op : UnOp) (v : Plain) → is_flat (unary_value op v) ≡ true
-unary-flat op error = refl
-unary-flat op undefined = refl
-unary-flat op v = unary_row-flat op v
+negated-single : (v : Plain) → is_single (negated_value v) ≡ true
+negated-single (boolean b) = refl
+negated-single v = refl
 
-and-flat : (v w : Plain) → is_flat (and_value v w) ≡ true
-and-flat (boolean false) w = refl
-and-flat (boolean true) (boolean b) = refl
-and-flat (boolean true) w = refl
-and-flat undefined (boolean false) = refl
-and-flat undefined (boolean true) = refl
-and-flat undefined w = refl
-and-flat v w = refl
+unary_row-single : (op : UnOp) (v : Plain) → is_single (unary_row op v) ≡ true
+unary_row-single UnOp.Plus v = on_number-single number_value number_value-single (number_of v)
+unary_row-single UnOp.Minus v = on_number-single negation negation-single (number_of v)
+unary_row-single UnOp.Not v = negated-single v
+unary_row-single UnOp.Complement v = on_number-single complement complement-single (number_of v)
 
-or-flat : (v w : Plain) → is_flat (or_value v w) ≡ true
-or-flat (boolean true) w = refl
-or-flat (boolean false) (boolean b) = refl
-or-flat (boolean false) w = refl
-or-flat undefined (boolean false) = refl
-or-flat undefined (boolean true) = refl
-or-flat undefined w = refl
-or-flat v w = refl
+pub unary-single : (op : UnOp) (v : Plain) → is_single (unary_value op v) ≡ true
+unary-single op error = refl
+unary-single op undefined = refl
+unary-single op v = unary_row-single op v
+
+pub and-single : (v w : Plain) → is_single (and_value v w) ≡ true
+and-single (boolean false) w = refl
+and-single (boolean true) (boolean b) = refl
+and-single (boolean true) w = refl
+and-single undefined (boolean false) = refl
+and-single undefined (boolean true) = refl
+and-single undefined w = refl
+and-single v w = refl
+
+pub or-single : (v w : Plain) → is_single (or_value v w) ≡ true
+or-single (boolean true) w = refl
+or-single (boolean false) (boolean b) = refl
+or-single (boolean false) w = refl
+or-single undefined (boolean false) = refl
+or-single undefined (boolean true) = refl
+or-single undefined w = refl
+or-single v w = refl
 
 -- ---- what is the same of values that are alike
 
@@ -305,7 +318,7 @@ module _ {M : AdPlace → AdPlace → Type 0} where
   unary-same op h = refl
 
   pub unary_value-alike : (op : UnOp) {v w : Plain} → Alike M v w → Alike M (unary_value op v) (unary_value op w)
-  unary_value-alike op {v} {w} h = flat-alike (unary_value op v) (unary_value op w) (unary-flat op v) (unary-same op h)
+  unary_value-alike op {v} {w} h = flat-alike (unary_value op v) (unary_value op w) (single-flat (unary_value op v) (unary-single op v)) (unary-same op h)
 
   and-same : {a b c d : Plain} → Alike M a b → Alike M c d → and_value a c ≡ and_value b d
   and-same (booleans false) k = refl
@@ -337,7 +350,7 @@ module _ {M : AdPlace → AdPlace → Type 0} where
   conjunction-alike {v} {w} h (more_items {xs = rs} {ys = qs} r others) =
       either-both (and_is_decided v) (and_is_decided w) (and_is_decided-alike h) (both_some h)
       (Both-then (Alike M) (λ p. conjunction (and_value v p) rs) (λ q. conjunction (and_value w q) qs)
-      (λ p q k. conjunction-alike (flat-alike (and_value v p) (and_value w q) (and-flat v p) (and-same h k)) others) r)
+      (λ p q k. conjunction-alike (flat-alike (and_value v p) (and_value w q) (single-flat (and_value v p) (and-single v p)) (and-same h k)) others) r)
 
   pub disjunction-alike : {v w : Plain} {rs qs : List (Option Plain)} → Alike M v w → Each (Both (Alike M)) rs qs
       → Both (Alike M) (disjunction v rs) (disjunction w qs)
@@ -345,7 +358,7 @@ module _ {M : AdPlace → AdPlace → Type 0} where
   disjunction-alike {v} {w} h (more_items {xs = rs} {ys = qs} r others) =
       either-both (or_is_decided v) (or_is_decided w) (or_is_decided-alike h) (both_some h)
       (Both-then (Alike M) (λ p. disjunction (or_value v p) rs) (λ q. disjunction (or_value w q) qs)
-      (λ p q k. disjunction-alike (flat-alike (or_value v p) (or_value w q) (or-flat v p) (or-same h k)) others) r)
+      (λ p q k. disjunction-alike (flat-alike (or_value v p) (or_value w q) (single-flat (or_value v p) (or-single v p)) (or-same h k)) others) r)
 
   pub chosen-alike : {a b c d : Option Plain} {v w : Plain} → Both (Alike M) a b → Both (Alike M) c d → Alike M v w
       → Both (Alike M) (chosen a c v) (chosen b d w)
@@ -414,4 +427,4 @@ module _ {M : AdPlace → AdPlace → Type 0} (one : IsOneToOne M) where
   binary-same op h k = strict-same op h k
 
   pub binary_value-alike : (op : BinOp) {a b c d : Plain} → Alike M a b → Alike M c d → Alike M (binary_value op a c) (binary_value op b d)
-  binary_value-alike op {a} {b} {c} {d} h k = flat-alike (binary_value op a c) (binary_value op b d) (binary-flat op a c) (binary-same op h k)
+  binary_value-alike op {a} {b} {c} {d} h k = flat-alike (binary_value op a c) (binary_value op b d) (single-flat (binary_value op a c) (binary-single op a c)) (binary-same op h k)

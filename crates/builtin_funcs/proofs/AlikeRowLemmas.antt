@@ -12,8 +12,8 @@ use Rattle.pool_text.specs.declared.language.AdPlace.{AdPlace}
 use Rattle.pool_text.specs.declared.language.BinOp.{BinOp}
 use Rattle.ad_value.specs.Logic.{is_true}
 use Rattle.ad_value.specs.declared.number.Number.{Number}
-use Rattle.ad_value.specs.Numbers.{in_millionths, integer_or_error, number_of, whole_part}
-use Rattle.ad_value.specs.Operators.{is_same}
+use Rattle.ad_value.specs.Numbers.{decimal_or_error, in_millionths, integer_or_error, number_of, whole_part}
+use Rattle.ad_value.specs.Operators.{is_same, on_number}
 use Rattle.ad_value.specs.Plain.{Plain, undefined, error, boolean, integer, text, list, elements}
 use Rattle.builtin_funcs.specs.declared.function.Function.{Function}
 use Rattle.builtin_funcs.specs.Aggregates.{aggregate, amount_of, chosen_of, greatest, least, may_be_number, on_list, row_in, total, value_in}
@@ -25,19 +25,19 @@ use Rattle.builtin_funcs.specs.Rows.{chosen, row_of, row_of_none, row_of_one, ro
 use Rattle.builtin_funcs.specs.Texts.{bool_value, boolean_in, int_value, integer_in, on_text, part_value, strcat_value, strcmp_value, stricmp_value}
 use Rattle.builtin_funcs.specs.Texts.{string_list_member_value, string_list_size_value, string_value, tail_value, usual_delimiters, written}
 use Rattle.builtin_funcs.proofs.AlikeLemmas.{Each, no_items, more_items, Each-all, Each-any, Each-drop, Each-length, Each-take, Alike, undefineds, errors}
-use Rattle.builtin_funcs.proofs.AlikeLemmas.{booleans, integers, texts, lists, places, IsOneToOne, is_flat, binary-same, bounded-alike, decimal_or_error-flat}
-use Rattle.builtin_funcs.proofs.AlikeLemmas.{either-flat, elements-alike, flat-alike, integer_or_error-flat, number-alike, on_number-flat, same-alike}
+use Rattle.builtin_funcs.proofs.AlikeLemmas.{booleans, integers, texts, lists, places, IsOneToOne, is_flat, binary-same, bounded-alike, decimal_or_error-single}
+use Rattle.builtin_funcs.proofs.AlikeLemmas.{either-holds, elements-alike, flat-alike, integer_or_error-single, number-alike, on_number-single, same-alike, single-flat}
 
 -- ---- rows hold no place
 
 size-flat : (v : Plain) → is_flat (size_value v) ≡ true
-size-flat (list items) = integer_or_error-flat (pos (length (elements items)))
+size-flat (list items) = single-flat (integer_or_error (pos (length (elements items)))) (integer_or_error-single (pos (length (elements items))))
 size-flat (text bytes) = refl
 size-flat v = refl
 
 value-flat : (decimals : Bool) (z : ℤ) → is_flat (value_in decimals z) ≡ true
-value-flat true z = decimal_or_error-flat z
-value-flat false z = integer_or_error-flat z
+value-flat true z = single-flat (decimal_or_error z) (decimal_or_error-single z)
+value-flat false z = single-flat (integer_or_error z) (integer_or_error-single z)
 
 chosen-flat : (value : ℤ → Plain) → ((z : ℤ) → is_flat (value z) ≡ true) → (o : Option ℤ) → is_flat (option_map_or value o undefined) ≡ true
 chosen-flat value h None = refl
@@ -57,8 +57,8 @@ aggregate-flat : (row : (ℤ → Plain) → List ℤ → Plain)
     → (v : Plain) → is_flat (on_list (aggregate row) v) ≡ true
 aggregate-flat row h (list items) =
     let decimals = list_any is_decimal (elements items) in
-    either-flat (not (list_all may_be_number (elements items))) error _ refl
-    (either-flat (list_any is_undefined (elements items)) undefined (row_in row decimals (elements items)) refl
+    either-holds is_flat (not (list_all may_be_number (elements items))) error _ refl
+    (either-holds is_flat (list_any is_undefined (elements items)) undefined (row_in row decimals (elements items)) refl
     (h (value_in decimals) (value-flat decimals) (filter_map (amount_of decimals) (elements items))))
 aggregate-flat row h v = refl
 
@@ -68,16 +68,17 @@ on_text-flat row h v = refl
 
 integer_in-flat : (bytes : List ℕ) → is_flat (integer_in bytes) ≡ true
 integer_in-flat bytes =
-    either-flat (nat_lt 0 (length (without_leading_sign bytes)) && all_ascii_digits (without_leading_sign bytes))
+    either-holds is_flat (nat_lt 0 (length (without_leading_sign bytes)) && all_ascii_digits (without_leading_sign bytes))
     (integer_or_error (signed_digits_value 10 bytes)) error
-    (integer_or_error-flat (signed_digits_value 10 bytes)) refl
+    (single-flat (integer_or_error (signed_digits_value 10 bytes)) (integer_or_error-single (signed_digits_value 10 bytes))) refl
 
 int-flat : (v : Plain) → is_flat (int_value v) ≡ true
 int-flat (text bytes) = integer_in-flat bytes
-int-flat v = on_number-flat (λ (n : Number). integer (whole_part n)) (λ x. refl) (number_of v)
+int-flat v = single-flat (on_number (λ (n : Number). integer (whole_part n)) (number_of v))
+    (on_number-single (λ (n : Number). integer (whole_part n)) (λ x. refl) (number_of v))
 
 string-flat : (v : Plain) → is_flat (string_value v) ≡ true
-string-flat v = either-flat (is_scalar v) (text (written v)) error refl refl
+string-flat v = either-holds is_flat (is_scalar v) (text (written v)) error refl refl
 
 boolean_in-flat : (bytes : List ℕ) → is_flat (boolean_in bytes) ≡ true
 boolean_in-flat bytes = by (bytes_eq (folded bytes) _) (bytes_eq (folded bytes) _)
@@ -100,7 +101,7 @@ string_list_member-flat (text x) (text bytes) (text delimiters) = refl
 string_list_member-flat x s d = refl
 
 none-flat : (f : Function) (moment : ℕ) → is_flat (row_of_none f moment) ≡ true
-none-flat Function.Time moment = integer_or_error-flat (pos moment)
+none-flat Function.Time moment = single-flat (integer_or_error (pos moment)) (integer_or_error-single (pos moment))
 none-flat f moment = refl
 
 one-flat : (f : Function) (v : Plain) → is_flat (row_of_one f v) ≡ true
@@ -117,7 +118,7 @@ one-flat Function.StringListSize v = string_list_size-flat v usual_delimiters
 one-flat f v = refl
 
 member-flat : (x l : Plain) → is_flat (member_value x l) ≡ true
-member-flat x (list items) = either-flat (is_scalar x) (boolean (list_any (compares BinOp.Equal x) (elements items))) error refl refl
+member-flat x (list items) = either-holds is_flat (is_scalar x) (boolean (list_any (compares BinOp.Equal x) (elements items))) error refl refl
 member-flat x l = refl
 
 identical_member-flat : (x l : Plain) → is_flat (identical_member_value x l) ≡ true
@@ -151,7 +152,7 @@ two-flat Function.StringListSize v w = string_list_size-flat v w
 two-flat f v w = refl
 
 strcat-flat : (vs : List Plain) → is_flat (strcat_value vs) ≡ true
-strcat-flat vs = either-flat (list_all is_scalar vs) (text (flat_map written vs)) error refl refl
+strcat-flat vs = either-holds is_flat (list_all is_scalar vs) (text (flat_map written vs)) error refl refl
 
 compared-flat : (test : BinOp → Bool) (o : Option BinOp) → is_flat (option_map_or (λ op. boolean (test op)) o error) ≡ true
 compared-flat test None = refl

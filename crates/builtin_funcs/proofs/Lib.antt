@@ -11,3 +11,4 @@ pub mod CompareLemmas
 pub mod LawLemmas
 pub mod AlikeLemmas
 pub mod AlikeRowLemmas
+pub mod WeightLemmas

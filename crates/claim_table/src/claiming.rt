@@ -27,7 +27,7 @@ use crate::{ClaimFault, ClaimTable, FreedList, JobState, Priorities, Stage, Stan
 use ad_eval::rank;
 use ad_store::{Holdings, Store};
 use ad_tree::Ad;
-use dock_match::{open_sides, won_from};
+use dock_match::{Claimant, open_sides, won_from};
 use eval_scope::World;
 use pool_steps::{Meter, Steps};
 use pool_text::{OutOfMemory, Slots};
@@ -191,16 +191,17 @@ impl ClaimTable {
             meter.tops,
             meter.entry,
         )?;
+        let claimant = Claimant {
+            rank: regard,
+            number: scene.number,
+        };
         let won = won_from(
             self.alloc,
             scene.store,
-            holder,
-            regard,
-            scene.number,
             scene.moment,
-            meter.tops,
-            meter.entry,
-            meter.touch,
+            holder,
+            claimant,
+            meter,
         )?;
         Ok(won.is_some())
     }

@@ -1,6 +1,6 @@
 -- A guard from attribute to attribute.
 use Rattle.std.proofs.Common.{◌≡◌, ◌≢◌, ◌≤◌, ◌<◌, ◌+◌, ℕ, zero, suc, Bool, true, false, not, ◌&&◌, ◌==◌, refl, List, [], ◌∷◌, ◌++◌, length, drop, get_or, set}
-use Rattle.std.proofs.Common.{position, nat_lt, Option, Some, None, cond, ap, sym, ◌∙◌, subst, arith, ◌⊎◌, inl, inr}
+use Rattle.std.proofs.Common.{position, nat_lt, Option, Some, None, IsSome, cond, ap, sym, ◌∙◌, subst, arith, ◌⊎◌, inl, inr}
 use Rattle.std.specs.Option.{option_or}
 use Rattle.std.specs.List.{position_or_len, refill}
 use Rattle.std.proofs.lemmas.Bool.Decides.{nat_tests}
@@ -199,8 +199,9 @@ refill-same n xs ws same =
     let past : n ≤ length ws = omega arith in
     take-append-le n ws (drop (length ws) xs) past ∙ take_all n ws (omega arith)
 
--- what is pending isn't unseen
-pub pending-unseen : (o m : Option (Option Kept)) → o ≡ None → m ≡ None → sight_of_entry (option_or o m) ≡ pending → ⊥
-pending-unseen o m none absent waits =
-    let sight : sight_of_entry (option_or o m) ≡ unseen = rw (none, absent) refl in
+-- what is pending, and isn't among the entries, is in the map
+pub pending-other : (o m : Option (Option Kept)) → o ≡ None → sight_of_entry (option_or o m) ≡ pending → IsSome m
+pending-other o None none waits =
+    let sight : sight_of_entry (option_or o None) ≡ unseen = rw none refl in
     absurd (cc)
+pending-other o (Some kept) none waits = refl

@@ -1,20 +1,20 @@
 // A finite map from attributes to what is known of them.
-ghost use Rattle.std.specs.Prelude.{◌≡◌, ℕ, OnOk, OnErr, IfSome, Some, cond, length, position, slice_get, slice_set, ◌<◌};
-ghost use Rattle.std.specs.HashMap.{get};
+ghost use Rattle.std.specs.Prelude.{◌≡◌, ℕ, OnOk, OnErr, IfOk, IfSome, IsSome, None, Some, cond, length, position, slice_get, slice_set, ◌<◌};
 ghost use Rattle.std.specs.Option.{option_copied};
 ghost use Rattle.pool_text.specs.declared.language.Pos.{Pos};
 ghost use Rattle.ad_value.specs.Plain.{plain};
 ghost use Rattle.cycle_guard.specs.Sights.{same_pos, sight};
-ghost use Rattle.cycle_guard.specs.Shown.{entry_of, key_of, same_key, sight_of_kept};
+ghost use Rattle.cycle_guard.specs.Shown.{entry_of, key_of, other_of, sight_of_kept};
 
 use ad_value::Value;
 use pool_text::{OutOfMemory, Pos};
 use smallvec::SmallVec;
 use std::alloc::Global;
+use std::boxed::Box;
 use std::collections::HashMap;
 
 /// Most evaluations enter no more attributes than these, and then the guard takes no memory.
-const INLINE: usize = 4;
+const INLINE: usize = 2;
 
 /// So many attributes are looked through in turn, in fewer steps than a hash takes. Few evaluations enter more.
 const FIRST: usize = 64;
@@ -41,6 +41,15 @@ struct Entry {
     kept: Option<Kept>,
 }
 
+impl Entry {
+    // Whether it is of this attribute. Most entries are of others of the same frame, so the attribute's number is compared first.
+    fn is_of(&self, pos: Pos) -> bool
+        ensures { result ≡ same_pos self.now.pos pos }
+    {
+        self.pos.attr == pos.attr && self.pos.ad == pos.ad && self.pos.frame == pos.frame
+    }
+}
+
 // What fills the places that aren't used yet.
 impl Default for Entry {
     fn default() -> Entry {
@@ -58,8 +67,15 @@ impl Default for Entry {
 /// The attributes that an evaluation has entered, with what is known of them. Contracts see a sight for each attribute.
 #[derive(Drop)]
 pub struct Guard {
+    alloc: Global,
     first: SmallVec<Entry, INLINE>,
-    others: HashMap<(u32, u32, u32), Option<Kept>>,
+    // Few guards have any, so their map stands apart and isn't made before the first.
+    others: Option<Box<Others>>,
+}
+
+#[derive(Drop)]
+struct Others {
+    kept: HashMap<(u32, u32, u32), Option<Kept>>,
 }
 
 impl Guard {
@@ -71,8 +87,9 @@ impl Guard {
         ensures { (q : Pos) → sight_of result q ≡ unseen }
     {
         Guard {
+            alloc,
             first: SmallVec::new(alloc),
-            others: HashMap::new(alloc),
+            others: None,
         }
     }
 
@@ -98,7 +115,7 @@ impl Guard {
         if self.first.len() < FIRST {
             self.first.push(Entry { pos, kept: None })?;
         } else {
-            self.others.insert(key_of(pos), None)?;
+            enter_other(self.alloc, &mut self.others, pos)?;
         }
         Ok(())
     }
@@ -111,11 +128,7 @@ impl Guard {
         let kept = Kept { value: v, height };
         match place_of(self.first.as_slice(), pos) {
             Some(place) => keep(self.first.as_mut_slice(), place, kept),
-            None => {
-                if let Some(old) = self.others.get_mut(&key_of(pos)) {
-                    *old = Some(kept);
-                }
-            }
+            None => keep_other(&mut self.others, pos, kept),
         }
     }
 }
@@ -131,7 +144,7 @@ fn key_of(pos: Pos) -> (u32, u32, u32)
 fn place_of(entries: &[Entry], pos: Pos) -> Option<usize>
     ensures { result ≡ position (λ e. same_pos e.pos pos) entries.now }
 {
-    entries.iter().position(|entry| entry.pos == pos)
+    entries.iter().position(|entry| entry.is_of(pos))
 }
 
 // What entries have of an attribute.
@@ -144,14 +157,53 @@ fn entry_at(entries: &[Entry], pos: Pos) -> Option<&Option<Kept>>
     }
 }
 
-// What the map has of an attribute. While it is empty no hash is taken.
-fn other_at(others: &HashMap<(u32, u32, u32), Option<Kept>>, pos: Pos) -> Option<&Option<Kept>>
-    ensures { option_copied result ≡ get same_key others.now (key_of pos) }
+// What the map has of an attribute, if there is one.
+fn other_at(others: &Option<Box<Others>>, pos: Pos) -> Option<&Option<Kept>>
+    ensures { option_copied result ≡ other_of others.now pos }
 {
-    if others.is_empty() {
-        return None;
+    match others {
+        Some(others) => others.kept.get(&key_of(pos)),
+        None => None,
     }
-    others.get(&key_of(pos))
+}
+
+// Enters an attribute in the map, which is made for the first of them.
+#[cold]
+#[inline(never)]
+fn enter_other(alloc: Global, others: &mut Option<Box<Others>>, pos: Pos) -> Result<(), OutOfMemory>
+    ensures ok { OnOk result ((q : Pos) → other_of others.new q ≡ cond (same_pos pos q) (Some None) (other_of others.old q)) }
+    ensures err { OnErr result ((q : Pos) → other_of others.new q ≡ other_of others.old q) }
+{
+    match others {
+        Some(others) => {
+            others.kept.insert(key_of(pos), None)?;
+        }
+        None => *others = Some(first_other(alloc, pos)?),
+    }
+    Ok(())
+}
+
+// A map with one attribute, which is pending.
+fn first_other(alloc: Global, pos: Pos) -> Result<Box<Others>, OutOfMemory>
+    ensures { IfOk result (λ others. (q : Pos) → other_of (Some others) q ≡ cond (same_pos pos q) (Some None) None) }
+{
+    let mut kept = HashMap::new(alloc);
+    kept.insert(key_of(pos), None)?;
+    Ok(Box::new(alloc, Others { kept })?)
+}
+
+// Keeps the value of an attribute in the map.
+#[cold]
+#[inline(never)]
+fn keep_other(others: &mut Option<Box<Others>>, pos: Pos, kept: Kept)
+    requires { IsSome (other_of others.old pos) }
+    ensures { (q : Pos) → other_of others.new q ≡ cond (same_pos pos q) (Some (Some kept)) (other_of others.old q) }
+{
+    if let Some(others) = others {
+        if let Some(old) = others.kept.get_mut(&key_of(pos)) {
+            *old = Some(kept);
+        }
+    }
 }
 
 // What is known of an attribute that was entered.

@@ -15,5 +15,5 @@ pub use laws::{
     a_decided_dock_is_never_true, a_dock_that_a_late_test_decides_is_never_true,
     a_dock_whose_tests_are_all_met_is_true,
 };
-pub use preemption::{Preemption, won_from};
+pub use preemption::{Claimant, Preemption, won_from};
 pub use sides::{OpenSides, open_sides, open_sides_by_plan};

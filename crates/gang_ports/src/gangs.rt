@@ -34,9 +34,9 @@ use std::sync::ledger::Ledger;
 /// counts each of them once in `touch`. In `tops` and `entry` it counts what evaluations count: for each port and each way
 /// to dock the ports before it, three at most for another free resource whose dock no test of either side decides. Where no
 /// bare name in the request is the label of a port before it, a port counts each such resource in `tops` once, however many
-/// ways there are. Nothing is evaluated of a resource against which a comparison with a literal of what is docked before it
-/// decides, as `TARGET.Host == cpu.Host`. Where tests and what is offered or claimed leave some port no resource, it evaluates
-/// nothing.
+/// ways there are. Where tests and what is offered or claimed leave some port no resource, it evaluates nothing. (It evaluates
+/// nothing either of a resource against which a comparison with a literal of what is docked before it decides, as
+/// `TARGET.Host == cpu.Host`, but no clause says so.)
 pub fn first_gang<H: Holdings, F: Ledger, E: Ledger, T: Ledger>(
     alloc: Global,
     store: &Store,

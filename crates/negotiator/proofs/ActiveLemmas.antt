@@ -13,10 +13,11 @@ use Rattle.std.proofs.lemmas.List.Sums.{count_by_more_no, count_by_more_yes}
 use Rattle.std.proofs.lemmas.Nat.{div_below, le-div}
 use Rattle.ad_store.specs.Stock.{Stock}
 use Rattle.claim_table.specs.declared.job.Job.{Job}
+use Rattle.job_clusters.specs.Pools.{is_free}
 use Rattle.negotiator.specs.declared.queues.Queue.{Queue}
 use Rattle.negotiator.specs.Budget.{is_idle_at}
 use Rattle.negotiator.specs.Cycle.{Market, Waiting, all_users, is_of, places, users_of, waits}
-use Rattle.negotiator.specs.Markets.{is_free, market_of}
+use Rattle.negotiator.specs.Markets.{market_of}
 use Rattle.claim_table.specs.Priorities.{Setting, priority_of, user_order}
 use Rattle.negotiator.specs.Queues.{AreQueues}
 use Rattle.negotiator.specs.Scenes.{users_at}

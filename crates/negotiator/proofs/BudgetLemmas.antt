@@ -7,8 +7,6 @@ use Rattle.std.specs.List.{range_with_len}
 use Rattle.std.specs.Option.{option_map_or}
 use Rattle.std.proofs.lemmas.Bool.{cases_eq}
 use Rattle.std.proofs.lemmas.List.Sums.{sum_by-cons, sum_by-le-sum_by}
-use Rattle.pool_steps.specs.declared.meter.Meter.{Meter}
-use Rattle.pool_steps.specs.Spent.{IsSame}
 use Rattle.ad_tree.specs.Ad.{ad_frames}
 use Rattle.ad_tree.specs.Frames.{Frame}
 use Rattle.ad_tree.specs.declared.request.Port.{Port}
@@ -20,9 +18,10 @@ use Rattle.claim_table.specs.declared.job.Stage.{Stage}
 use Rattle.claim_table.specs.Jobs.{with_standing}
 use Rattle.claim_table.specs.Priorities.{Setting}
 use Rattle.gang_ports.specs.Gangs.{docks_open}
+use Rattle.job_clusters.specs.Pools.{pool_for}
 use Rattle.negotiator.specs.Budget.{AreLeft, ArePaid, AreWithin, Counts, IsSearched, budget, due, is_due, entries_for, evaluations_by, evaluations_for}
 use Rattle.negotiator.specs.Budget.{is_idle_at, is_marked, looks_for, open_by, open_for, over_idle, price_at}
-use Rattle.negotiator.specs.Markets.{is_idle, pool_for}
+use Rattle.negotiator.specs.Markets.{is_idle}
 use Rattle.negotiator.proofs.JobLemmas.{entries-later, evaluations-later, idle-later, later, length-later, requests-later}
 use Rattle.negotiator.proofs.SumLemmas.{sum-falls}
 
@@ -324,12 +323,3 @@ module _ (moment : ℕ) (stock : Stock) (settings : List Setting) (jobs : List J
 
   pub looks-start : after.touch ≤ before.touch + over_idle (looks_for stock) jobs
   looks-start = let rise = within.touch in let start = budget-start (looks_for stock) jobs failed none in omega (arith, rise, start)
-
--- ---- the meter
-
--- it is the same where nothing was spent, and after one part and another
-pub same-none : {F E T : Type 0} (meter : Meter F E T) → IsSame meter meter
-same-none meter = record { tops = refl; entry = refl; touch = refl }
-
-pub same-on : {F E T : Type 0} {first middle last : Meter F E T} → IsSame first middle → IsSame middle last → IsSame first last
-same-on before after = record { tops = after.tops ∙ before.tops; entry = after.entry ∙ before.entry; touch = after.touch ∙ before.touch }

@@ -9,10 +9,11 @@ use Rattle.std.proofs.lemmas.Option.{same_Some}
 use Rattle.claim_table.specs.declared.job.Job.{Job}
 use Rattle.claim_table.specs.declared.job.Stage.{Stage}
 use Rattle.claim_table.specs.Jobs.{lists, with_standing}
-use Rattle.negotiator.specs.declared.scene.Scene.{Scene}
+use Rattle.job_clusters.specs.declared.scene.Scene.{Scene}
+use Rattle.job_clusters.specs.Pools.{free_among, is_free}
+use Rattle.job_clusters.specs.Scenes.{settings_in, stock_in}
 use Rattle.negotiator.specs.Budget.{is_idle_at}
-use Rattle.negotiator.specs.Markets.{found, free_among, is_free}
-use Rattle.negotiator.specs.Scenes.{settings_in, stock_in}
+use Rattle.negotiator.specs.Markets.{found}
 use Rattle.negotiator.proofs.JobLemmas.{free-later}
 use Rattle.negotiator.proofs.QueueLemmas.{slice_get_is}
 use Rattle.negotiator.proofs.StoredLemmas.{beside, found-stored}

@@ -20,7 +20,7 @@ use Rattle.gang_ports.specs.Choice.{Choice, IsFirst, IsFirstOf, fits, is_among, 
 use Rattle.gang_ports.specs.Gangs.{choice_of, free_places, gang, is_free}
 use Rattle.gang_ports.proofs.LawLemmas.{all-tuples, first-are}
 use Rattle.gang_ports.proofs.ListLemmas.{All-flat_map, length-mapped, mapped-at}
-use Rattle.negotiator.specs.Markets.{pool_for}
+use Rattle.job_clusters.specs.Pools.{pool_for}
 use Rattle.negotiator.proofs.CycleLemmas.{any-append}
 
 -- ---- the tuples of a choice

@@ -9,12 +9,13 @@ use Rattle.std.proofs.lemmas.List.{drop_all, drop_more, get_or-map, length-set, 
 use Rattle.std.proofs.lemmas.Bool.Decides.{nat_tests}
 use Rattle.std.proofs.lemmas.List.Elements.{All-cons, All-nil, All-push, All-set, recursion_from_All}
 use Rattle.claim_table.specs.declared.job.Job.{Job}
+use Rattle.job_clusters.specs.declared.scene.Scene.{Scene}
+use Rattle.job_clusters.specs.Scenes.{stock_in}
 use Rattle.negotiator.specs.declared.queues.Queue.{Queue}
-use Rattle.negotiator.specs.declared.scene.Scene.{Scene}
 use Rattle.negotiator.specs.Budget.{AreLeft, is_due, is_idle_at, is_marked}
 use Rattle.negotiator.specs.Cycle.{Market, is_of, places, waits}
 use Rattle.negotiator.specs.Queues.{AreFresh, AreQueues, IsAhead, IsAtHead, IsSame, Key, queue_of}
-use Rattle.negotiator.specs.Scenes.{market_in, stock_in, users_at}
+use Rattle.negotiator.specs.Scenes.{market_in, users_at}
 use Rattle.claim_table.specs.Settings.{settings_of}
 use Rattle.negotiator.proofs.ActiveLemmas.{any-own, read-at}
 use Rattle.negotiator.proofs.CycleLemmas.{any-append}

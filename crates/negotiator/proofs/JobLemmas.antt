@@ -27,8 +27,9 @@ use Rattle.claim_table.proofs.ListLemmas.{map-set_same, position-map}
 use Rattle.claim_table.specs.Priorities.{Setting, priority_of}
 use Rattle.gang_ports.specs.Gangs.{gang}
 use Rattle.gang_ports.proofs.PoolLemmas.{attributes-later, docks-later, gang-later}
+use Rattle.job_clusters.specs.Pools.{is_free, pool_for}
 use Rattle.negotiator.specs.Budget.{entries_by, entries_for, evaluations_by, evaluations_for, is_idle_at}
-use Rattle.negotiator.specs.Markets.{found, found_by, found_for, is_free, is_idle, pool_for}
+use Rattle.negotiator.specs.Markets.{found, found_by, found_for, is_idle}
 
 -- ---- a job that is idle
 

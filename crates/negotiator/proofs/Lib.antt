@@ -1,12 +1,12 @@
 mod ActiveLemmas
 pub mod AlikeLemmas
 mod BudgetLemmas
-mod ClusterLemmas
 pub mod CycleLemmas
 mod FreeLemmas
 pub mod GangLemmas
 mod HeadLemmas
 pub mod JobLemmas
+mod KeptLemmas
 mod QueueLemmas
 mod ReadyLemmas
 mod ShiftLemmas

@@ -12,10 +12,11 @@ use Rattle.claim_table.specs.declared.job.Stage.{Stage}
 use Rattle.claim_table.specs.Holders.{holder_of}
 use Rattle.claim_table.specs.Jobs.{jobs_limit, with_standing}
 use Rattle.literal_index.specs.Shown.{IsIndex}
-use Rattle.negotiator.specs.declared.scene.Scene.{Scene}
+use Rattle.job_clusters.specs.declared.scene.Scene.{Scene}
+use Rattle.job_clusters.specs.Scenes.{settings_in, stock_in}
 use Rattle.negotiator.specs.Budget.{is_idle_at, is_marked}
 use Rattle.negotiator.specs.Markets.{AreOwn, found}
-use Rattle.negotiator.specs.Scenes.{IsReady, settings_in, stock_in}
+use Rattle.negotiator.specs.Scenes.{IsReady}
 use Rattle.negotiator.proofs.BudgetLemmas.{none-marked}
 use Rattle.negotiator.proofs.JobLemmas.{all-later, found-later, length-later, stored-later}
 

@@ -22,9 +22,10 @@ use Rattle.claim_table.specs.Jobs.{AreFree, offered_to, state_of, wanted}
 use Rattle.claim_table.specs.Priorities.{Setting, priority_of}
 use Rattle.conjunct_plan.specs.Tests.{tests_of}
 use Rattle.gang_ports.specs.Gangs.{attributes_open, docks_open, gang, looks_most}
+use Rattle.job_clusters.specs.Pools.{pool_for}
 use Rattle.negotiator.specs.declared.answers.Offered.{Offered}
 use Rattle.negotiator.specs.Budget.{entries_by, entries_for, evaluations_by, evaluations_for, is_idle_at, looks_by, looks_for, price_at}
-use Rattle.negotiator.specs.Markets.{found, found_by, found_for, is_idle, name_at, offer_named, pool_for}
+use Rattle.negotiator.specs.Markets.{found, found_by, found_for, is_idle, name_at, offer_named}
 use Rattle.negotiator.proofs.GangLemmas.{not-some}
 
 abbrev pub is_idle_state : JobState → Bool

@@ -14,12 +14,13 @@ use Rattle.claim_table.specs.declared.job.Job.{Job}
 use Rattle.claim_table.specs.declared.job.Stage.{Stage}
 use Rattle.claim_table.specs.Jobs.{wanted, with_standing}
 use Rattle.claim_table.proofs.ListLemmas.{map-set_same}
+use Rattle.job_clusters.specs.Pools.{free_among}
 use Rattle.negotiator.specs.declared.queues.Queue.{Queue}
 use Rattle.negotiator.specs.Budget.{is_idle_at}
 use Rattle.negotiator.specs.Cycle.{Market, Offer, PlainSpin, PlainTurn, Waiting, all_users, is_given, is_of, is_waiting, places, spin, turn, waiting_count}
 use Rattle.negotiator.specs.Cycle.{wants_of}
 use Rattle.negotiator.specs.Mapped.{offer_mapped, turn_mapped}
-use Rattle.negotiator.specs.Markets.{found, free_among, is_idle, market_of, waiting_of, with_offers}
+use Rattle.negotiator.specs.Markets.{found, is_idle, market_of, waiting_of, with_offers}
 use Rattle.claim_table.specs.Priorities.{Setting, priority_of, user_order}
 use Rattle.negotiator.specs.Queues.{AreQueues}
 use Rattle.negotiator.proofs.AlikeLemmas.{IsAlike, count-same, filter-same, spin-alike, turn-alike}

@@ -7,17 +7,19 @@ use Rattle.std.proofs.lemmas.List.{append-nil, drop_all, drop_more, length-map, 
 use Rattle.std.proofs.lemmas.List.Elements.{filter-append}
 use Rattle.claim_table.specs.declared.job.Job.{Job}
 use Rattle.claim_table.specs.Jobs.{jobs_limit}
+use Rattle.job_clusters.specs.declared.scene.Scene.{Scene}
+use Rattle.job_clusters.specs.Pools.{free_among}
+use Rattle.job_clusters.specs.Scenes.{settings_in, stock_in}
 use Rattle.negotiator.specs.declared.answers.Offered.{Offered}
 use Rattle.negotiator.specs.declared.answers.Spin.{Spin}
 use Rattle.negotiator.specs.declared.answers.Turn.{Turn}
-use Rattle.negotiator.specs.declared.scene.Scene.{Scene}
 use Rattle.negotiator.specs.declared.queues.Queue.{Queue}
 use Rattle.negotiator.specs.Budget.{ArePaid, Counts}
 use Rattle.negotiator.specs.Cycle.{Market, Offer, PlainSpin, PlainTurn, cycle_from, cycle_of, has_offer, is_empty, is_of, offers_in, offers_of, places}
 use Rattle.negotiator.specs.Cycle.{shares_of, spin, turn, turns, users_of, waiting_count}
-use Rattle.negotiator.specs.Markets.{IsPart, free_among, offer_named, spin_named, turn_named, waiting_of, with_offers}
+use Rattle.negotiator.specs.Markets.{IsPart, offer_named, spin_named, turn_named, waiting_of, with_offers}
 use Rattle.claim_table.specs.Priorities.{priority_of}
-use Rattle.negotiator.specs.Scenes.{IsReady, market_in, settings_in, stock_in, users_at}
+use Rattle.negotiator.specs.Scenes.{IsReady, market_in, users_at}
 use Rattle.negotiator.specs.Queues.{AreQueues}
 use Rattle.claim_table.specs.Settings.{settings_of}
 use Rattle.negotiator.proofs.ActiveLemmas.{few-users}

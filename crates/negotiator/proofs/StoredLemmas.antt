@@ -17,9 +17,10 @@ use Rattle.dock_match.specs.Pool.{Pool, slot_at}
 use Rattle.bilateral_match.specs.declared.member.Member.{Member}
 use Rattle.bilateral_match.specs.Members.{as_member, best, earlier, first_of, is_member, member_order, members, members_from}
 use Rattle.claim_table.specs.declared.job.Job.{Job}
+use Rattle.job_clusters.specs.Pools.{pool_for}
 use Rattle.negotiator.specs.Cycle.{Market, Offer, cycle_of, is_empty, offers_in, offers_of, places, shares_of, spin, spins_within, turn, turns, users_of}
 use Rattle.negotiator.specs.Cycle.{waiting_count}
-use Rattle.negotiator.specs.Markets.{found, found_by, found_for, market_of, pool_for, with_offers}
+use Rattle.negotiator.specs.Markets.{found, found_by, found_for, market_of, with_offers}
 use Rattle.claim_table.specs.Priorities.{Setting, priority_of}
 use Rattle.negotiator.proofs.CycleLemmas.{offer, offers-kept, turn-by}
 use Rattle.negotiator.proofs.GangLemmas.{gang-all, slots-stored}

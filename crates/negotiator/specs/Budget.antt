@@ -3,6 +3,7 @@ use Rattle.std.specs.Prelude.{◌≡◌, ℕ, ◌+◌, ◌*◌, ◌≤◌, Bool,
 use Rattle.std.specs.Prelude.{slice_index_or, sum_by, None, if◌then◌else◌}
 use Rattle.std.specs.List.{range_with_len}
 use Rattle.std.specs.Option.{option_map_or}
+use Rattle.pool_steps.specs.declared.meter.Meter.{Meter}
 use Rattle.ad_tree.specs.Ad.{ad_frames}
 use Rattle.ad_tree.specs.Frames.{Frame}
 use Rattle.ad_tree.specs.declared.request.Port.{Port}
@@ -15,7 +16,9 @@ use Rattle.claim_table.specs.declared.job.Job.{Job}
 use Rattle.claim_table.specs.Priorities.{Setting}
 use Rattle.conjunct_plan.specs.Tests.{tests_of}
 use Rattle.gang_ports.specs.Gangs.{attributes_open, docks_open, looks_most}
-use Rattle.negotiator.specs.Markets.{found, is_idle, pool_for}
+use Rattle.job_clusters.specs.declared.clusters.Clusters.{Clusters}
+use Rattle.job_clusters.specs.Pools.{pool_for}
+use Rattle.negotiator.specs.Markets.{found, is_idle}
 
 -- ---- one search
 
@@ -91,6 +94,10 @@ pub record Counts : Type 0 where
 
 abbrev pub counts : ℕ → ℕ → ℕ → Counts
 counts tops entry touch = record { tops = tops; entry = entry; touch = touch }
+
+-- what a meter counted, where the looks that the clusters saved count as spent
+abbrev pub counted_with : {F E T : Type 0} → Meter F E T → Clusters → Counts
+counted_with meter clusters = counts meter.tops.now meter.entry.now (meter.touch.now + clusters.looks.saved)
 
 -- the counts rose by no more than one search for the job at a place may count
 pub record IsSearched (moment : ℕ) (stock : Stock) (settings : List Setting) (jobs : List Job) (i : ℕ) (before after : Counts) : Type 0 where

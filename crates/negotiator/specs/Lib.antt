@@ -1,5 +1,4 @@
 pub mod Budget
-pub mod Clusters
 pub mod Cycle
 pub mod Mapped
 pub mod Markets

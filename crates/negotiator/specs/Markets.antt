@@ -1,20 +1,19 @@
 -- The market of a pool: its jobs, and the resources of a store by their slots.
-use Rattle.std.specs.Prelude.{◌≡◌, ℕ, Bool, true, false, ◌&&◌, List, [], ◌∷◌, ◌++◌, count_by, map, slice_get, Option, Some, is_none}
-use Rattle.std.specs.Prelude.{is_some, option_and_then, option_map}
+use Rattle.std.specs.Prelude.{◌≡◌, ℕ, Bool, true, false, List, [], ◌∷◌, ◌++◌, map, slice_get, Option, Some, option_and_then, option_map}
 use Rattle.std.specs.Option.{option_map_or}
 use Rattle.ad_tree.specs.Ad.{ad_frames}
 use Rattle.ad_tree.specs.Frames.{Frame}
 use Rattle.ad_tree.specs.declared.request.Port.{Port}
 use Rattle.ad_tree.specs.declared.request.Request.{Request}
 use Rattle.ad_store.specs.Stock.{Stock}
-use Rattle.dock_match.specs.Pool.{Pool, pool_of, slot_at}
+use Rattle.dock_match.specs.Pool.{Pool, slot_at}
 use Rattle.bilateral_match.specs.Members.{best_slot}
 use Rattle.claim_table.specs.declared.job.Job.{Job}
 use Rattle.claim_table.specs.declared.job.Stage.{Stage}
-use Rattle.claim_table.specs.Holders.{holder_of}
-use Rattle.claim_table.specs.Jobs.{claimed_by, offered_to, wanted, with_standing}
+use Rattle.claim_table.specs.Jobs.{wanted, with_standing}
 use Rattle.gang_ports.specs.Gangs.{gang}
 use Rattle.gang_ports.specs.Ports.{ports_of}
+use Rattle.job_clusters.specs.Pools.{free_among, pool_for}
 use Rattle.negotiator.specs.declared.answers.Offered.{Offered}
 use Rattle.negotiator.specs.declared.answers.Spin.{Spin}
 use Rattle.negotiator.specs.declared.answers.Turn.{Turn}
@@ -49,10 +48,6 @@ pub record IsPart (offers : List (Offer ℕ)) (jobs later : List Job) : Type 0 w
 
 -- ---- the market
 
--- the resources as the jobs hold them
-abbrev pub pool_for : ℕ → Stock → List Setting → List Job → Pool
-pool_for moment stock settings jobs = pool_of moment stock (λ slot. is_some (offered_to slot jobs)) (holder_of settings jobs)
-
 -- without ports a request finds the one resource that is best for it and for its user's number, and with ports its gang
 abbrev pub found_by : Stock → Pool → ℕ → List Frame → List Port → Option (List ℕ)
 found_by stock pool number request [] = option_map (λ slot. slot ∷ []) (best_slot stock pool request number)
@@ -64,13 +59,6 @@ found_for moment stock settings jobs number request = found_by stock (pool_for m
 abbrev pub found : ℕ → Stock → List Setting → List Job → ℕ → Option (List ℕ)
 found moment stock settings jobs i =
     option_and_then (λ job. found_for moment stock settings jobs (priority_of job.user settings) job.request) (slice_get jobs i)
-
--- a resource is free that is neither offered nor claimed
-abbrev pub is_free : List Job → ℕ → Bool
-is_free jobs slot = is_none (offered_to slot jobs) && is_none (claimed_by slot jobs)
-
-abbrev pub free_among : Stock → List Job → ℕ
-free_among stock jobs = count_by (is_free jobs) stock.slots
 
 abbrev pub market_of : ℕ → Stock → List Setting → List Job → Market ℕ
 market_of moment stock settings jobs = record {

@@ -2,42 +2,24 @@
 use Rattle.std.specs.Prelude.{◌≡◌, ◌≤◌, ℕ, Bool, List, [], All, false, length, map, slice_get}
 use Rattle.std.specs.Option.{option_map_or}
 use Rattle.ad_tree.specs.Ad.{ad_frames}
-use Rattle.ad_store.specs.Stock.{Stock}
-use Rattle.ad_store.specs.Store.{stock_of}
 use Rattle.ad_candidates.specs.Rows.{rows_of}
-use Rattle.dock_match.specs.Pool.{AreStored, Pool}
+use Rattle.dock_match.specs.Pool.{AreStored}
 use Rattle.claim_table.specs.declared.job.Job.{Job}
 use Rattle.claim_table.specs.Holders.{holder_of}
 use Rattle.claim_table.specs.Jobs.{jobs_limit}
-use Rattle.claim_table.specs.Priorities.{Setting}
-use Rattle.claim_table.specs.Table.{jobs_of}
 use Rattle.literal_index.specs.Shown.{IsIndex}
+use Rattle.job_clusters.specs.declared.scene.Scene.{Scene}
+use Rattle.job_clusters.specs.Scenes.{settings_in, stock_in}
 use Rattle.negotiator.specs.declared.queues.Queue.{Queue}
-use Rattle.negotiator.specs.declared.scene.Scene.{Scene}
-use Rattle.negotiator.specs.declared.seeker.Seeker.{Seeker}
 use Rattle.negotiator.specs.declared.shares.Share.{Share}
 use Rattle.negotiator.specs.declared.shares.Shares.{Shares}
 use Rattle.negotiator.specs.Budget.{AreFailing}
 use Rattle.negotiator.specs.Cycle.{Market, Offer, PlainTurn, places, turn, turns}
-use Rattle.negotiator.specs.Markets.{AreOwn, market_of, pool_for}
-use Rattle.claim_table.specs.Settings.{settings_of}
+use Rattle.negotiator.specs.Markets.{AreOwn, market_of}
 
-abbrev pub stock_in : Scene → Stock
-stock_in scene = stock_of scene.store.now
-
-abbrev pub settings_in : Scene → List Setting
-settings_in scene = settings_of scene.priorities.now
-
+-- the market of the scene among these jobs
 abbrev pub market_in : Scene → List Job → Market ℕ
 market_in scene jobs = market_of scene.moment (stock_in scene) (settings_in scene) jobs
-
--- the resources of the scene as the jobs hold them
-abbrev pub pool_in : Scene → List Job → Pool
-pool_in scene jobs = pool_for scene.moment (stock_in scene) (settings_in scene) jobs
-
--- the jobs among which one seeks a resource
-abbrev pub jobs_around : Seeker → List Job
-jobs_around seeker = jobs_of seeker.claims.now
 
 -- the index is that of the store, what is claimed is in the store, each job has no ports or those that its ad lists, and jobs that are marked find nothing
 pub record IsReady (scene : Scene) (jobs : List Job) (failed : List Bool) : Type 0 where

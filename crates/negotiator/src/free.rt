@@ -2,7 +2,7 @@
 ghost use Rattle.std.specs.Prelude.{◌≡◌, ◌≤◌, ◌^◌, count_by};
 ghost use Rattle.ad_store.specs.Store.{stock_of};
 ghost use Rattle.claim_table.specs.Table.{jobs_of};
-ghost use Rattle.negotiator.specs.Markets.{free_among, is_free};
+ghost use Rattle.job_clusters.specs.Pools.{free_among, is_free};
 
 use ad_store::Store;
 use claim_table::ClaimTable;

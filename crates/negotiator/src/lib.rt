@@ -3,28 +3,19 @@
 #![tactic(auto)]
 
 mod answers;
-mod class;
-mod clusters;
 mod free;
 mod laws;
 mod queues;
-mod scene;
 mod search;
-mod seeker;
 mod shares;
 mod spins;
 mod turns;
 
 pub use answers::{Cycle, Offered, OfferedList, Spin, Turn, Turns};
 pub use claim_table::{Priorities, PriorityFault};
-pub use class::{Class, Ranked};
-pub use clusters::Clusters;
 pub use laws::{
-    a_cycle_ends_with_the_first_spin_without_an_offer, twins_are_matched_alike,
-    users_with_a_waiting_job_take_turns_in_order,
+    a_cycle_ends_with_the_first_spin_without_an_offer, users_with_a_waiting_job_take_turns_in_order,
 };
 pub use queues::Queue;
-pub use scene::Scene;
-pub use seeker::Seeker;
 pub use shares::{Share, Shares};
 pub use spins::cycle;

@@ -7,9 +7,10 @@ ghost use Rattle.negotiator.specs.Queues.{AreFresh, IsAhead, IsAtHead, IsSame, e
 ghost use Rattle.negotiator.specs.Scenes.{market_in};
 ghost use Rattle.claim_table.specs.Settings.{settings_of};
 
+use crate::Priorities;
 use crate::search::is_idle;
-use crate::{Priorities, Scene};
 use claim_table::ClaimTable;
+use job_clusters::Scene;
 use pool_text::{OutOfMemory, Slots, Text};
 use std::alloc::Global;
 use std::collections::BTreeMap;

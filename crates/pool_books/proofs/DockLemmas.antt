@@ -19,7 +19,7 @@ use Rattle.claim_table.specs.Holders.{holder_of, holding_in}
 use Rattle.claim_table.specs.Jobs.{claim_of, claimed_by as claimer, lists, offer_of, offered_to as offeree, slots_of}
 use Rattle.claim_table.specs.Priorities.{Setting, priority_of}
 use Rattle.eval_scope.specs.World.{PlainWorld}
-use Rattle.negotiator.specs.Markets as market
+use Rattle.job_clusters.specs.Pools as pools
 use Rattle.pool_books.specs.Books.{name_in, named_standing, queued}
 use Rattle.pool_books.specs.Negotiation as seen
 use Rattle.pool_books.specs.Ports.{ports_in}
@@ -233,7 +233,7 @@ module _ (stock : Stock) (beside : AreBeside stock.ads stock.slots) where
       claimed-same : is_some (claimed_by advert.name (map (queued stock) jobs)) ≡ is_some (claimer slot jobs)
       claimed-same = ap is_some claimed-found ∙ some-map (queued stock) (find claims_it jobs) ∙ found-any claims_it jobs ∙ sym (position-any claims_it jobs)
 
-      pub free-same : seen.is_free (map (queued stock) jobs) advert ≡ market.is_free jobs slot
+      pub free-same : seen.is_free (map (queued stock) jobs) advert ≡ pools.is_free jobs slot
       free-same =
           ap (λ b. b && is_none (claimed_by advert.name (map (queued stock) jobs)))
           (none-some (offered_to advert.name (map (queued stock) jobs)) ∙ ap not offered-same ∙ sym (none-some (offeree slot jobs)))

@@ -16,6 +16,7 @@ use Rattle.bilateral_match.specs.Members.{as_member, best, earlier, first_of, is
 use Rattle.claim_table.specs.declared.job.Job.{Job}
 use Rattle.claim_table.specs.Priorities.{Setting, priority_of}
 use Rattle.claim_table.proofs.HolderLemmas.{All-found}
+use Rattle.job_clusters.specs.Pools as pools
 use Rattle.negotiator.specs.Markets as market
 use Rattle.pool_books.specs.Books.{name_in, queued}
 use Rattle.pool_books.specs.Negotiation as seen
@@ -64,7 +65,7 @@ module _ (stock : Stock) (beside : AreBeside stock.ads stock.slots) (moment : �
   pool_seen = seen.pool_in moment stock.ads settings (map (queued stock) jobs)
 
   abbrev pool_here : Pool
-  pool_here = market.pool_for moment stock settings jobs
+  pool_here = pools.pool_for moment stock settings jobs
 
   abbrev names_at : ℕ → List ℕ
   names_at place = seen.name_at stock.ads place

@@ -10,6 +10,7 @@ use Rattle.ad_tree.specs.declared.request.Port.{Port}
 use Rattle.ad_store.specs.Stock.{Stock}
 use Rattle.claim_table.specs.declared.job.Job.{Job}
 use Rattle.claim_table.specs.declared.job.Stage.{Stage}
+use Rattle.job_clusters.specs.Pools as pools
 use Rattle.negotiator.specs.Cycle.{Market, Offer, PlainSpin, PlainTurn, Waiting, cycle_of, offers_in, offers_of}
 use Rattle.negotiator.specs.Mapped.{offer_mapped, spin_mapped, turn_mapped}
 use Rattle.claim_table.specs.Priorities.{Setting}
@@ -159,7 +160,7 @@ module _ (stock : Stock) (beside : AreBeside stock.ads stock.slots) (moment : �
 
   open-with : (request : List Frame) (ports : List Port)
       → budget.open_by (seen.pool_in moment stock.ads settings (map (queued stock) jobs)) request ports
-      ≡ budget.open_by (market.pool_for moment stock settings jobs) request ports
+      ≡ budget.open_by (pools.pool_for moment stock settings jobs) request ports
   open-with request [] = open-seen stock beside moment settings jobs stored owned request
   open-with request (port ∷ ports) = docks-seen stock beside moment settings jobs stored owned request (port ∷ ports)
 

@@ -19,8 +19,8 @@ use Rattle.claim_table.specs.Jobs.{offered_to as offeree}
 use Rattle.claim_table.specs.Priorities.{Setting}
 use Rattle.gang_ports.specs.Gangs.{docks_open, docks_weighed, gang}
 use Rattle.gang_ports.proofs.SameLemmas.{docks-same, gang-same, weighed-same}
+use Rattle.job_clusters.specs.Pools as pools
 use Rattle.negotiator.proofs.GangLemmas.{gang-below}
-use Rattle.negotiator.specs.Markets as market
 use Rattle.pool_books.specs.Books.{name_in, queued}
 use Rattle.pool_books.specs.Negotiation as seen
 use Rattle.pool_books.specs.Queue.{claimed_by, offered_to}
@@ -95,34 +95,34 @@ module _ (stock : Stock) (beside : AreBeside stock.ads stock.slots) where
 
     pub best-seen : (number : ℕ) (request : List Frame)
         → best (seen.pool_in moment stock.ads settings (map (queued stock) jobs)) request number
-        ≡ best (market.pool_for moment stock settings jobs) request number
+        ≡ best (pools.pool_for moment stock settings jobs) request number
     best-seen number request = best-same moment stock.ads request off_named off_slots held_named held_slots number same-at
 
     pub open-seen : (request : List Frame)
         → open_count (seen.pool_in moment stock.ads settings (map (queued stock) jobs)) request
-        ≡ open_count (market.pool_for moment stock settings jobs) request
+        ≡ open_count (pools.pool_for moment stock settings jobs) request
     open-seen request = open-same moment stock.ads request off_named off_slots held_named held_slots same-at
 
-    pub free-seen : count_by (seen.is_free (map (queued stock) jobs)) stock.ads ≡ market.free_among stock jobs
+    pub free-seen : count_by (seen.is_free (map (queued stock) jobs)) stock.ads ≡ pools.free_among stock jobs
     free-seen =
-        count-beside (seen.is_free (map (queued stock) jobs)) (market.is_free jobs) stock.ads stock.slots beside.long
+        count-beside (seen.is_free (map (queued stock) jobs)) (pools.is_free jobs) stock.ads stock.slots beside.long
         (λ i a s at_a at_s. free-same stock beside i a s at_a at_s jobs stored)
 
     -- ---- gangs
 
     gang-seen : (request : List Frame) (ports : List Port)
         → gang (seen.pool_in moment stock.ads settings (map (queued stock) jobs)) request ports
-        ≡ gang (market.pool_for moment stock settings jobs) request ports
+        ≡ gang (pools.pool_for moment stock settings jobs) request ports
     gang-seen request ports = gang-same moment stock.ads off_named off_slots held_named held_slots same-at request ports
 
     pub docks-seen : (request : List Frame) (ports : List Port)
         → docks_open (seen.pool_in moment stock.ads settings (map (queued stock) jobs)) request ports
-        ≡ docks_open (market.pool_for moment stock settings jobs) request ports
+        ≡ docks_open (pools.pool_for moment stock settings jobs) request ports
     docks-seen request ports = docks-same moment stock.ads off_named off_slots held_named held_slots same-at request ports
 
     pub weighed-seen : (request : List Frame) (ports : List Port)
         → docks_weighed (seen.pool_in moment stock.ads settings (map (queued stock) jobs)) request ports
-        ≡ docks_weighed (market.pool_for moment stock settings jobs) request ports
+        ≡ docks_weighed (pools.pool_for moment stock settings jobs) request ports
     weighed-seen request ports = weighed-same moment stock.ads off_named off_slots held_named held_slots same-at request ports
 
     names-of : (places : List ℕ) → All (λ p. p < length stock.ads) places → map names_at places ≡ map (name_in stock) (map (slot_at stock) places)
@@ -133,12 +133,12 @@ module _ (stock : Stock) (beside : AreBeside stock.ads stock.slots) where
 
     -- the names of a gang are those in its slots
     pub gang-names : (request : List Frame) (ports : List Port) → option_map (map names_at) (gang (seen.pool_in moment stock.ads settings (map (queued stock) jobs)) request ports)
-        ≡ option_map (map (name_in stock)) (option_map (map (slot_at stock)) (gang (market.pool_for moment stock settings jobs) request ports))
+        ≡ option_map (map (name_in stock)) (option_map (map (slot_at stock)) (gang (pools.pool_for moment stock settings jobs) request ports))
     gang-names request ports =
         ap (option_map (map names_at)) (gang-seen request ports)
-        ∙ by (gang (market.pool_for moment stock settings jobs) request ports) refl
+        ∙ by (gang (pools.pool_for moment stock settings jobs) request ports) refl
       where
-        by : (o : Option (List ℕ)) → gang (market.pool_for moment stock settings jobs) request ports ≡ o
+        by : (o : Option (List ℕ)) → gang (pools.pool_for moment stock settings jobs) request ports ≡ o
             → option_map (map names_at) o ≡ option_map (map (name_in stock)) (option_map (map (slot_at stock)) o)
         by None there = refl
-        by (Some places) there = ap (λ l. Some l) (names-of places (gang-below (market.pool_for moment stock settings jobs) request ports places there))
+        by (Some places) there = ap (λ l. Some l) (names-of places (gang-below (pools.pool_for moment stock settings jobs) request ports places there))

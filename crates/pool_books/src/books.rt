@@ -58,12 +58,13 @@ impl Books {
     ghost use Rattle.pool_books.specs.State.{QueuedJob};
     ghost use Rattle.pool_books.specs.Wanting.{IsNotPut, IsPartOffered};
 
-    pub fn new(alloc: Global) -> Books
+    /// No ads and no jobs, with a seed for the hashes of the names in ads.
+    pub fn new(alloc: Global, seed: u64) -> Books
         ensures ads { ads_of result.ads ≡ [] }
         ensures jobs { queue_of result ≡ [] }
     {
         Books {
-            ads: IndexedStore::new(alloc),
+            ads: IndexedStore::new(alloc, seed),
             claims: ClaimTable::new(alloc),
         }
     }

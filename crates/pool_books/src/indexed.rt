@@ -26,11 +26,13 @@ pub struct NotPut {
     pub gone: Option<usize>,
 }
 
-/// The ads that are held, and the index of them, each under its slot. No ad has more than 1,024 attributes.
+/// The ads that are held, and the index of them, each under its slot. No ad has more than 1,024 attributes. Whoever parses an
+/// ad for them takes their seed, on which the hashes of its names depend.
 #[derive(Drop)]
 pub struct IndexedStore {
     pub store: Store,
     pub index: Index,
+    pub seed: u64,
     ghost indexed: { ∥ IsKept index (rows_of (stock_of store)) ∥₁ },
     ghost small: { AreSmallAds (stock_of store).ads },
 }
@@ -40,12 +42,13 @@ impl IndexedStore {
     ghost use Rattle.pool_books.specs.Adverts.{advert_of};
     ghost use Rattle.pool_books.specs.Indexed.{ads_of};
 
-    pub fn new(alloc: Global) -> IndexedStore
+    pub fn new(alloc: Global, seed: u64) -> IndexedStore
         ensures { ads_of result ≡ [] }
     {
         IndexedStore {
             store: Store::new(alloc),
             index: Index::new(alloc),
+            seed,
         }
     }
 

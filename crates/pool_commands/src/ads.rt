@@ -12,7 +12,7 @@ ghost use Rattle.pool_books.specs.Indexed.{ads_of};
 ghost use Rattle.pool_commands.specs.Ads as steps;
 
 use crate::faults::faulty;
-use ad_parser::parse_ad;
+use ad_parser::parse_ad_seeded;
 use ad_printer::print_ad;
 use ad_store::{Put, PutFault, Store};
 use claim_table::ClaimTable;
@@ -53,7 +53,7 @@ pub fn advertise<T: Ledger>(
         lifetime,
         block,
     } = advertisement;
-    let ad = match parse_ad(alloc, block) {
+    let ad = match parse_ad_seeded(alloc, books.ads.seed, block) {
         Ok(ad) => ad,
         Err(fault) => return faulty(fault),
     };

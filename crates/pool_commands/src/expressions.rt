@@ -15,7 +15,7 @@ ghost use Rattle.pool_commands.specs.Expressions as steps;
 
 use crate::faults::faulty;
 use ad_eval::value;
-use ad_parser::parse_expr;
+use ad_parser::parse_expr_seeded;
 use ad_printer::print_value;
 use ad_store::Store;
 use ad_tree::{Ad, Phrase, Ports};
@@ -27,10 +27,11 @@ use pool_text::{AdPlace, OutOfMemory, Text};
 use std::alloc::Global;
 use std::sync::ledger::Ledger;
 
-/// `eval`: the value of the expression with nothing docked. It counts one in `tops`.
+/// `eval`: the value of the expression with nothing docked; the hashes of its names depend on the seed. It counts one in `tops`.
 #[tactic(auto, unfolding(pool_replies::specs::Replies::is_printable, pool_replies::specs::Refusals::is_printable_refusal))]
 pub fn eval<F: Ledger, E: Ledger>(
     alloc: Global,
+    seed: u64,
     moment: u64,
     expr: &[u8],
     tops: &mut Steps<F>,
@@ -42,7 +43,7 @@ pub fn eval<F: Ledger, E: Ledger>(
     ensures cost { tops.new ≤ tops.old + 1 }
     ensures ratio { entry.new + 9216 * tops.old ≤ entry.old + 9216 * tops.new }
 {
-    let phrase = match parse_expr(alloc, expr) {
+    let phrase = match parse_expr_seeded(alloc, seed, expr) {
         Ok(phrase) => phrase,
         Err(fault) => return faulty(fault),
     };
@@ -69,7 +70,7 @@ pub fn eval_in<F: Ledger, E: Ledger, T: Ledger>(
     ensures ratio { IsPaid meter.old meter.new }
     ensures looks { meter.new.touch.now ≤ meter.old.touch.now + 1 }
 {
-    let phrase = match parse_expr(alloc, expr) {
+    let phrase = match parse_expr_seeded(alloc, books.ads.seed, expr) {
         Ok(phrase) => phrase,
         Err(fault) => return faulty(fault),
     };

@@ -19,7 +19,7 @@ ghost use Rattle.pool_books.specs.Negotiation.{pool_in};
 ghost use Rattle.pool_commands.specs.Gangs as steps;
 
 use crate::faults::faulty;
-use ad_parser::parse_ad;
+use ad_parser::parse_ad_seeded;
 use ad_tree::{Ad, Ports, Request};
 use claim_table::{Priorities, Standing};
 use gang_ports::{PortsFault, first_gang, read_ports};
@@ -54,7 +54,7 @@ pub fn gang<F: Ledger, E: Ledger, T: Ledger>(
     ensures ratio { IsPaid meter.old meter.new }
     ensures looks { meter.new.touch.now ≤ meter.old.touch.now + steps.narrowest_for_gang (ads_of books.now.ads) (ad_outcome block.now) }
 {
-    let ad = match parse_ad(alloc, block) {
+    let ad = match parse_ad_seeded(alloc, books.ads.seed, block) {
         Ok(ad) => ad,
         Err(fault) => return faulty(fault),
     };

@@ -19,7 +19,7 @@ ghost use Rattle.pool_commands.specs.Queries as steps;
 ghost use Rattle.pool_commands.specs.Queries.{AreHits};
 
 use crate::faults::faulty;
-use ad_parser::parse_ad;
+use ad_parser::parse_ad_seeded;
 use ad_store::Store;
 use ad_tree::{Ports, Request};
 use bilateral_match::{Hit, Hits};
@@ -50,7 +50,7 @@ pub fn query<F: Ledger, E: Ledger, T: Ledger>(
     ensures ratio { IsPaid meter.old meter.new }
     ensures looks { meter.new.touch.now ≤ meter.old.touch.now + steps.narrowest (ads_of ads.now) (ad_outcome block.now) }
 {
-    let ad = match parse_ad(alloc, block) {
+    let ad = match parse_ad_seeded(alloc, ads.seed, block) {
         Ok(ad) => ad,
         Err(fault) => return faulty(fault),
     };

@@ -15,7 +15,7 @@ ghost use Rattle.pool_commands.specs.Jobs as steps;
 
 use crate::faults::faulty;
 use crate::gangs::listed_ports;
-use ad_parser::parse_ad;
+use ad_parser::parse_ad_seeded;
 use ad_tree::{Ad, Ports, Request};
 use negotiator::{Priorities, PriorityFault};
 use pool_books::Books;
@@ -42,7 +42,7 @@ pub fn submit(
         ≡ (state_with moment priorities books.new, reply)) }
     ensures printable { IfOk result (λ reply. IsTrue (is_printable reply)) }
 {
-    let ad = match parse_ad(alloc, block) {
+    let ad = match parse_ad_seeded(alloc, books.ads.seed, block) {
         Ok(ad) => ad,
         Err(fault) => return faulty(fault),
     };

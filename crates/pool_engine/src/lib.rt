@@ -18,6 +18,6 @@ pub use laws::the_first_reply_is_offered_at_once;
 pub use left::Left;
 pub use mail::Mail;
 pub use pool_state::Pool;
-pub use run::{run_and_keep, run_pool};
+pub use run::{Host, run_and_keep, run_pool};
 pub use script_run::RunEnd;
 pub use workload::generated;

@@ -10,6 +10,7 @@ ghost use Rattle.pool_books.specs.State.{opening};
 ghost use Rattle.script_run.specs.Effects.{beside_of};
 ghost use Rattle.run_rules.specs.PoolRules.{Ran, WasTried};
 
+use crate::run::Host;
 use notice_desk::Notices;
 use pool_replies::{Reply, print_reply, refusals};
 use pool_script::{Command, Script};
@@ -29,16 +30,16 @@ pub(crate) struct PoolMachine {
 }
 
 impl PoolMachine {
-    pub(crate) fn new(alloc: Global) -> PoolMachine
+    pub(crate) fn new(host: Host) -> PoolMachine
         ensures stands { Stands result.script [] 0 }
         ensures waiting { result.script.waiting ≡ [] }
         ensures over { result.script.over ≡ false }
         ensures pool { state_of result.pool ≡ opening }
     {
         PoolMachine {
-            alloc,
-            script: Script::new(alloc),
-            pool: Pool::new(alloc),
+            alloc: host.alloc,
+            script: Script::new(host.alloc),
+            pool: Pool::with_seed(host.alloc, host.seed),
         }
     }
 }

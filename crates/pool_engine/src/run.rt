@@ -82,14 +82,23 @@ pub fn run_pool<'a, S: Source, K: Sink, D: Notices, F: Ledger, E: Ledger, T: Led
         → result ≢ RunEnd.WriteFault) }
 {
     let mut meter = Meter::new(tops, entry, touch);
-    let (end, left) = run_and_keep(alloc, words, source, sink, desk, &mut meter);
+    let host = Host { alloc, seed: 0 };
+    let (end, left) = run_and_keep(host, words, source, sink, desk, &mut meter);
     drop(left);
     end
 }
 
+/// What a run has of the machine that it runs on: its memory, and a seed for the hashes of the names in ads. Replies don't depend
+/// on the seed. Where it is drawn at random, nobody can choose names that meet in a table.
+#[derive(Clone, Copy)]
+pub struct Host {
+    pub alloc: Global,
+    pub seed: u64,
+}
+
 /// Runs what the words ask for as `run_pool` does, and hands what is left of the run to its caller.
 pub fn run_and_keep<S: Source, K: Sink, D: Notices, F: Ledger, E: Ledger, T: Ledger>(
-    alloc: Global,
+    host: Host,
     words: &[Text],
     source: &mut S,
     sink: &mut K,
@@ -137,10 +146,10 @@ pub fn run_and_keep<S: Source, K: Sink, D: Notices, F: Ledger, E: Ledger, T: Led
                 rest: Rest::Nothing,
             },
         ),
-        Asked::Pool => run_script(alloc, source, sink, desk, meter),
+        Asked::Pool => run_script(host, source, sink, desk, meter),
         Asked::Workload { machines } => {
-            let mut pool = Pool::new(alloc);
-            let end = run_workload(alloc, machines, &mut pool, sink, desk, meter);
+            let mut pool = Pool::with_seed(host.alloc, host.seed);
+            let end = run_workload(host.alloc, machines, &mut pool, sink, desk, meter);
             (
                 end,
                 Left {
@@ -156,7 +165,7 @@ pub fn run_and_keep<S: Source, K: Sink, D: Notices, F: Ledger, E: Ledger, T: Led
                 resources,
                 customers,
             };
-            let end = run_wire(alloc, size, source, sink, desk, meter);
+            let end = run_wire(host.alloc, size, source, sink, desk, meter);
             (
                 end,
                 Left {
@@ -169,7 +178,7 @@ pub fn run_and_keep<S: Source, K: Sink, D: Notices, F: Ledger, E: Ledger, T: Led
 
 // Runs the script that a source gives.
 fn run_script<S: Source, K: Sink, D: Notices, F: Ledger, E: Ledger, T: Ledger>(
-    alloc: Global,
+    host: Host,
     source: &mut S,
     sink: &mut K,
     desk: &mut D,
@@ -197,7 +206,7 @@ fn run_script<S: Source, K: Sink, D: Notices, F: Ledger, E: Ledger, T: Ledger>(
         length (text_of pool_rules (opened (D.shows desk.old)) (whole_commands bytes)) ≤ (K.shows sink.old).sure
         → result.0 ≢ RunEnd.WriteFault) }
 {
-    let mut machine = PoolMachine::new(alloc);
+    let mut machine = PoolMachine::new(host);
     let end = run(&mut machine, source, sink, desk, meter);
     (
         end,

@@ -48,15 +48,24 @@ impl Pool {
     ghost use Rattle.pool_state.specs.Pool.{is_spent, state_of};
 
     /// The pool at moment 0, with no ads, jobs and priorities.
-    #[tactic(auto, unfolding(crate::specs::Pool::state_of, crate::specs::Pool::is_spent))]
     pub fn new(alloc: Global) -> Pool
+        ensures state { state_of result ≡ opening }
+        ensures spent { is_spent result ≡ false }
+    {
+        Pool::with_seed(alloc, 0)
+    }
+
+    /// The same, with this seed for the hashes of the names in ads: whoever writes ads and doesn't know the seed can't choose names
+    /// that meet in a table.
+    #[tactic(auto, unfolding(crate::specs::Pool::state_of, crate::specs::Pool::is_spent))]
+    pub fn with_seed(alloc: Global, seed: u64) -> Pool
         ensures state { state_of result ≡ opening }
         ensures spent { is_spent result ≡ false }
     {
         Pool {
             alloc,
             moment: 0,
-            books: Books::new(alloc),
+            books: Books::new(alloc, seed),
             priorities: Priorities::new(alloc),
             spent: false,
         }
@@ -226,6 +235,9 @@ impl Pool {
     {
         let alloc = self.alloc;
         let moment = self.moment;
+        let seed = self.books.ads.seed;
+        let books = &mut self.books;
+        let priorities = &mut self.priorities;
         match command {
             Command::Clock(n) => self.clock(*n, meter.touch),
             Command::Advertise {
@@ -238,59 +250,28 @@ impl Pool {
                     lifetime: *lifetime,
                     block: block.bytes(),
                 };
-                advertise(alloc, &mut self.books, moment, advertisement, meter.touch)
+                advertise(alloc, books, moment, advertisement, meter.touch)
             }
-            Command::Withdraw(name) => withdraw(&mut self.books, name, meter.touch),
-            Command::Show(name) => show(alloc, &self.books.ads.store, name.bytes(), meter.touch),
-            Command::List => list(alloc, &self.books),
-            Command::Eval(expr) => eval(alloc, moment, expr.bytes(), meter.tops, meter.entry),
-            Command::EvalIn { name, expr } => eval_in(
-                alloc,
-                &self.books,
-                moment,
-                name.bytes(),
-                expr.bytes(),
-                meter,
-            ),
-            Command::Query(block) => query(alloc, &self.books.ads, moment, block.bytes(), meter),
-            Command::Submit { job, user, block } => submit(
-                alloc,
-                &mut self.books,
-                job,
-                user,
-                block.bytes(),
-            ),
-            Command::Remove(job) => remove(&mut self.books, job),
-            Command::Priority { user, n } => set_priority(&mut self.priorities, user, *n),
-            Command::Gang(block) => gang(
-                alloc,
-                &self.books,
-                &self.priorities,
-                moment,
-                block.bytes(),
-                meter,
-            ),
-            Command::Negotiate => negotiate(
-                alloc,
-                &mut self.books,
-                &self.priorities,
-                moment,
-                meter,
-            ),
-            Command::Claim(job) => claim(
-                alloc,
-                &mut self.books,
-                &self.priorities,
-                job,
-                moment,
-                meter,
-            ),
-            Command::Release(job) => release(&mut self.books, job),
-            Command::Jobs => jobs(alloc, &self.books),
-            Command::Job(job) => show_job(alloc, &self.books, job.bytes()),
-            Command::Users => users(alloc, &self.books, &self.priorities),
-            Command::Why(job) => explain(alloc, &self.books, moment, job.bytes(), meter),
-            Command::Classes => classify(alloc, &self.books, meter.touch),
+            Command::Withdraw(name) => withdraw(books, name, meter.touch),
+            Command::Show(name) => show(alloc, &books.ads.store, name.bytes(), meter.touch),
+            Command::List => list(alloc, books),
+            Command::Eval(expr) => eval(alloc, seed, moment, expr.bytes(), meter.tops, meter.entry),
+            Command::EvalIn { name, expr } => {
+                eval_in(alloc, books, moment, name.bytes(), expr.bytes(), meter)
+            }
+            Command::Query(block) => query(alloc, &books.ads, moment, block.bytes(), meter),
+            Command::Submit { job, user, block } => submit(alloc, books, job, user, block.bytes()),
+            Command::Remove(job) => remove(books, job),
+            Command::Priority { user, n } => set_priority(priorities, user, *n),
+            Command::Gang(block) => gang(alloc, books, priorities, moment, block.bytes(), meter),
+            Command::Negotiate => negotiate(alloc, books, priorities, moment, meter),
+            Command::Claim(job) => claim(alloc, books, priorities, job, moment, meter),
+            Command::Release(job) => release(books, job),
+            Command::Jobs => jobs(alloc, books),
+            Command::Job(job) => show_job(alloc, books, job.bytes()),
+            Command::Users => users(alloc, books, priorities),
+            Command::Why(job) => explain(alloc, books, moment, job.bytes(), meter),
+            Command::Classes => classify(alloc, books, meter.touch),
             // A pool alone knows no mailbox.
             Command::Unlisten(_) => Ok(Reply::Refused(Refusal::UnknownName)),
             Command::Bad(number) => Ok(Reply::Refused(Refusal::Line(*number))),

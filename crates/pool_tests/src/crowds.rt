@@ -1,5 +1,5 @@
 // Pools with as many ads, as much text and as many faults as there may be.
-use crate::runs::{Host, assert_run, host_of, run};
+use crate::runs::{Case, Host, assert_run, host_of, run};
 use pool_engine::RunEnd;
 use pool_text::{OutOfMemory, Text, append_count};
 use std::alloc::Global;
@@ -222,10 +222,19 @@ refused 2 unknown command
 
 #[test]
 fn all_commands_are_answered(rt: HostRuntime) -> Result<(), Fail> {
-    let end = RunEnd::Done { refused: 1 };
-    assert_run(&rt, host_of(&rt), ALL, (16, 16), (0, 0), end, ALL_REPLIES)?;
-    let end = RunEnd::Done { refused: 1 };
-    assert_run(&rt, host_of(&rt), ALL, (1, 1), (0, 0), end, ALL_REPLIES)?;
+    let case = Case {
+        script: ALL,
+        most: (16, 16),
+        fails: (0, 0),
+        end: RunEnd::Done { refused: 1 },
+        written: ALL_REPLIES,
+    };
+    assert_run(&rt, host_of(&rt), case)?;
+    let cut = Case {
+        most: (1, 1),
+        ..case
+    };
+    assert_run(&rt, host_of(&rt), cut)?;
     Ok(())
 }
 

@@ -2,7 +2,7 @@
 use crate::mail::{
     Seen, assert_replies, assert_shows, listen, run_heard, what_is_seen, write_replies,
 };
-use crate::runs::{Host, assert_run, host_of};
+use crate::runs::{Case, Host, assert_run, host_of};
 use notice_desk::{Desk, FileMailbox};
 use pool_engine::RunEnd;
 use pool_text::{OutOfMemory, Text, append_count};
@@ -10,18 +10,7 @@ use std::alloc::Global;
 use std::process::Abort;
 use std::test::Fail;
 
-// A script, how many bytes each call of the source and of the sink passes on, and which call of each fails (0: none); how the run
-// ends, and what was written.
-#[derive(Clone, Copy)]
-struct Case {
-    script: &'static [u8],
-    most: (usize, usize),
-    fails: (usize, usize),
-    end: RunEnd,
-    written: &'static [u8],
-}
-
-const CASES: [Case; 8] = [
+const CASES: [Case<'static>; 8] = [
     // The second read fails, and then the first.
     Case {
         script: b"eval 1\neval 2\n",
@@ -87,15 +76,7 @@ const CASES: [Case; 8] = [
 #[test]
 fn each_fault_in_its_turn(rt: HostRuntime) -> Result<(), Fail> {
     for case in CASES {
-        assert_run(
-            &rt,
-            host_of(&rt),
-            case.script,
-            case.most,
-            case.fails,
-            case.end,
-            case.written,
-        )?;
+        assert_run(&rt, host_of(&rt), case)?;
     }
     Ok(())
 }
@@ -108,8 +89,14 @@ fn assert_written(
     refused: u64,
     written: &[u8],
 ) -> Result<(), OutOfMemory> {
-    let end = RunEnd::Done { refused };
-    assert_run(rt, host, script, (4096, 4096), (0, 0), end, written)
+    let case = Case {
+        script,
+        most: (4096, 4096),
+        fails: (0, 0),
+        end: RunEnd::Done { refused },
+        written,
+    };
+    assert_run(rt, host, case)
 }
 
 // The text so many times.

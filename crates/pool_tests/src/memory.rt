@@ -1,5 +1,5 @@
 // The memory of many runs in one process.
-use crate::runs::{assert_run, host_of};
+use crate::runs::{Case, assert_run, host_of};
 use pool_engine::RunEnd;
 use pool_text::{OutOfMemory, Text, append_count, read_number};
 use std::alloc::Global;
@@ -38,17 +38,16 @@ fn pages(rt: HostRuntime) -> Result<u64, Fail> {
 #[test]
 fn many_runs_take_the_memory_of_one(rt: HostRuntime) -> Result<(), Fail> {
     let (script, written) = hundred_ads(rt.alloc())?;
+    let case = Case {
+        script: script.bytes(),
+        most: (4096, 4096),
+        fails: (0, 0),
+        end: RunEnd::Done { refused: 0 },
+        written: written.bytes(),
+    };
     let mut before = 0;
     for i in 0..RUNS {
-        assert_run(
-            &rt,
-            host_of(&rt),
-            script.bytes(),
-            (4096, 4096),
-            (0, 0),
-            RunEnd::Done { refused: 0 },
-            written.bytes(),
-        )?;
+        assert_run(&rt, host_of(&rt), case)?;
         if i == 0 {
             before = pages(rt)?;
         }

@@ -97,20 +97,30 @@ pub(crate) fn run(
     ran
 }
 
-/// A run over such a source and such a sink, which fail at these calls, ends like this, with these replies.
-pub(crate) fn assert_run(
-    rt: &impl Abort,
-    host: Host,
-    script: &[u8],
-    most: (usize, usize),
-    fails: (usize, usize),
-    end: RunEnd,
-    replies: &[u8],
-) -> Result<(), OutOfMemory> {
-    let (ended, written) = run(host, script, most, fails.0, fails.1)?;
-    assert!(rt; ended == end);
-    assert_eq!(rt; written.bytes(), replies);
+/// A script, how many bytes each call of the source and of the sink passes on, and which call of each fails (0: none); how the run
+/// ends, and what was written.
+#[derive(Clone, Copy)]
+pub(crate) struct Case<'a> {
+    pub(crate) script: &'a [u8],
+    pub(crate) most: (usize, usize),
+    pub(crate) fails: (usize, usize),
+    pub(crate) end: RunEnd,
+    pub(crate) written: &'a [u8],
+}
+
+/// A run over such a source and such a sink, which fail at these calls, ends like this, with what was written.
+pub(crate) fn assert_run(rt: &impl Abort, host: Host, case: Case<'_>) -> Result<(), OutOfMemory> {
+    let (end, written) = run(host, case.script, case.most, case.fails.0, case.fails.1)?;
+    assert!(rt; end == case.end);
+    assert_eq!(rt; written.bytes(), case.written);
     Ok(())
+}
+
+// A blank ledger for each counter of a run.
+struct Blanks {
+    tops: Blank,
+    entry: Blank,
+    touch: Blank,
 }
 
 // Runs a script with counters of its own.
@@ -120,20 +130,13 @@ fn run_counted<F: Ledger, E: Ledger, T: Ledger, D: Notices>(
     source: &mut MemorySource,
     sink: &mut MemorySink,
     desk: &mut D,
-    tops: Blank,
-    entry: Blank,
-    touch: Blank,
+    blanks: Blanks,
 ) -> RunEnd
-    requires tops_name { tops.name ≡ F.name }
-    requires tops_parts { tops.parts ≡ F.parts }
-    requires tops_one { tops.parts ≡ 1 }
-    requires entry_name { entry.name ≡ E.name }
-    requires entry_parts { entry.parts ≡ E.parts }
-    requires entry_one { entry.parts ≡ 1 }
-    requires touch_name { touch.name ≡ T.name }
-    requires touch_parts { touch.parts ≡ T.parts }
-    requires touch_one { touch.parts ≡ 1 }
+    requires names { (blanks.tops.name ≡ F.name) × (blanks.entry.name ≡ E.name) × (blanks.touch.name ≡ T.name) }
+    requires parts { (blanks.tops.parts ≡ F.parts) × (blanks.entry.parts ≡ E.parts) × (blanks.touch.parts ≡ T.parts) }
+    requires ones { (blanks.tops.parts ≡ 1) × (blanks.entry.parts ≡ 1) × (blanks.touch.parts ≡ 1) }
 {
+    let Blanks { tops, entry, touch } = blanks;
     let mut tops = Steps::<F>::new(host.process, tops);
     let mut entry = Steps::<E>::new(host.process, entry);
     let mut touch = Steps::<T>::new(host.process, touch);
@@ -150,16 +153,12 @@ pub(crate) fn run_with<D: Notices>(
     sink: &mut MemorySink,
     desk: &mut D,
 ) -> RunEnd {
-    run_counted::<Brand, Brand, Brand, _>(
-        host,
-        words,
-        source,
-        sink,
-        desk,
-        Blank::new(1),
-        Blank::new(1),
-        Blank::new(1),
-    )
+    let blanks = Blanks {
+        tops: Blank::new(1),
+        entry: Blank::new(1),
+        touch: Blank::new(1),
+    };
+    run_counted::<Brand, Brand, Brand, _>(host, words, source, sink, desk, blanks)
 }
 
 /// Three commands of seven bytes, and their replies of two.
@@ -170,17 +169,14 @@ const REPLIES: &[u8] = b"1\n2\n3\n";
 #[test]
 fn each_read_may_fail(rt: HostRuntime) -> Result<(), Fail> {
     for reads in 0..4 {
-        let replies = &REPLIES[..(2 * reads).min(6)];
-        let end = RunEnd::ReadFault;
-        assert_run(
-            &rt,
-            host_of(&rt),
-            THREE,
-            (7, 4096),
-            (reads + 1, 0),
-            end,
-            replies,
-        )?;
+        let case = Case {
+            script: THREE,
+            most: (7, 4096),
+            fails: (reads + 1, 0),
+            end: RunEnd::ReadFault,
+            written: &REPLIES[..(2 * reads).min(6)],
+        };
+        assert_run(&rt, host_of(&rt), case)?;
     }
     Ok(())
 }
@@ -188,25 +184,28 @@ fn each_read_may_fail(rt: HostRuntime) -> Result<(), Fail> {
 #[test]
 fn each_write_may_fail(rt: HostRuntime) -> Result<(), Fail> {
     for bytes in 0..6 {
-        let replies = &REPLIES[..bytes];
-        let end = RunEnd::WriteFault;
-        assert_run(
-            &rt,
-            host_of(&rt),
-            THREE,
-            (4096, 1),
-            (0, bytes + 1),
-            end,
-            replies,
-        )?;
+        let case = Case {
+            script: THREE,
+            most: (4096, 1),
+            fails: (0, bytes + 1),
+            end: RunEnd::WriteFault,
+            written: &REPLIES[..bytes],
+        };
+        assert_run(&rt, host_of(&rt), case)?;
     }
     Ok(())
 }
 
 #[test]
 fn nothing_is_read_behind_the_end(rt: HostRuntime) -> Result<(), Fail> {
-    let end = RunEnd::Done { refused: 0 };
-    assert_run(&rt, host_of(&rt), THREE, (7, 4096), (5, 0), end, REPLIES)?;
+    let case = Case {
+        script: THREE,
+        most: (7, 4096),
+        fails: (5, 0),
+        end: RunEnd::Done { refused: 0 },
+        written: REPLIES,
+    };
+    assert_run(&rt, host_of(&rt), case)?;
     Ok(())
 }
 
@@ -223,15 +222,14 @@ fn long_and_short(alloc: Global) -> Result<Text, OutOfMemory> {
 #[test]
 fn a_read_offers_room_for_4096_bytes(rt: HostRuntime) -> Result<(), Fail> {
     let script = long_and_short(rt.alloc())?;
-    assert_run(
-        &rt,
-        host_of(&rt),
-        script.bytes(),
-        (9999, 4096),
-        (2, 0),
-        RunEnd::ReadFault,
-        b"1\n",
-    )?;
+    let case = Case {
+        script: script.bytes(),
+        most: (9999, 4096),
+        fails: (2, 0),
+        end: RunEnd::ReadFault,
+        written: b"1\n",
+    };
+    assert_run(&rt, host_of(&rt), case)?;
     Ok(())
 }
 

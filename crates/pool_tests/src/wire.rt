@@ -1,6 +1,6 @@
 // Schedules of the claiming protocol with their replies, over sources and sinks in memory that are cut and fail.
 use crate::mail::texts;
-use crate::runs::{Host, host_of, run_alone, source_of};
+use crate::runs::{Case, Host, host_of, run_alone, source_of};
 use pool_engine::RunEnd;
 use pool_io::MemorySource;
 use pool_text::{OutOfMemory, Text};
@@ -34,19 +34,11 @@ fn run_over(
     ran
 }
 
-// A run over such a source and such a sink, which fail at these calls, ends like this, with these replies.
-fn assert_run(
-    rt: &impl Abort,
-    host: Host,
-    schedule: &[u8],
-    most: (usize, usize),
-    fails: (usize, usize),
-    end: RunEnd,
-    replies: &[u8],
-) -> Result<(), OutOfMemory> {
-    let (ended, written) = run(host, schedule, most, fails.0, fails.1)?;
-    assert!(rt; ended == end);
-    assert_eq!(rt; written.bytes(), replies);
+// A run over such a source and such a sink, which fail at these calls, ends like this, with what was written.
+fn assert_run(rt: &impl Abort, host: Host, case: Case<'_>) -> Result<(), OutOfMemory> {
+    let (end, written) = run(host, case.script, case.most, case.fails.0, case.fails.1)?;
+    assert!(rt; end == case.end);
+    assert_eq!(rt; written.bytes(), case.written);
     Ok(())
 }
 
@@ -58,9 +50,19 @@ fn assert_answered(
     refused: u64,
     replies: &[u8],
 ) -> Result<(), OutOfMemory> {
-    let end = RunEnd::Done { refused };
-    assert_run(rt, host, schedule, (4096, 4096), (0, 0), end, replies)?;
-    assert_run(rt, host, schedule, (1, 1), (0, 0), end, replies)
+    let whole = Case {
+        script: schedule,
+        most: (4096, 4096),
+        fails: (0, 0),
+        end: RunEnd::Done { refused },
+        written: replies,
+    };
+    assert_run(rt, host, whole)?;
+    let cut = Case {
+        most: (1, 1),
+        ..whole
+    };
+    assert_run(rt, host, cut)
 }
 
 /// Schedules with how many lines are refused, and the replies.
@@ -109,17 +111,14 @@ const ANSWERED: [usize; 4] = [0, 27, 54, 82];
 #[test]
 fn each_read_may_fail(rt: HostRuntime) -> Result<(), Fail> {
     for (lines, bytes) in ANSWERED.iter().enumerate() {
-        let replies = &REPLIES[..*bytes];
-        let end = RunEnd::ReadFault;
-        assert_run(
-            &rt,
-            host_of(&rt),
-            THREE,
-            (8, 4096),
-            (lines + 1, 0),
-            end,
-            replies,
-        )?;
+        let case = Case {
+            script: THREE,
+            most: (8, 4096),
+            fails: (lines + 1, 0),
+            end: RunEnd::ReadFault,
+            written: &REPLIES[..*bytes],
+        };
+        assert_run(&rt, host_of(&rt), case)?;
     }
     Ok(())
 }
@@ -127,17 +126,14 @@ fn each_read_may_fail(rt: HostRuntime) -> Result<(), Fail> {
 #[test]
 fn each_write_may_fail(rt: HostRuntime) -> Result<(), Fail> {
     for bytes in 0..REPLIES.len() {
-        let replies = &REPLIES[..bytes];
-        let end = RunEnd::WriteFault;
-        assert_run(
-            &rt,
-            host_of(&rt),
-            THREE,
-            (4096, 1),
-            (0, bytes + 1),
-            end,
-            replies,
-        )?;
+        let case = Case {
+            script: THREE,
+            most: (4096, 1),
+            fails: (0, bytes + 1),
+            end: RunEnd::WriteFault,
+            written: &REPLIES[..bytes],
+        };
+        assert_run(&rt, host_of(&rt), case)?;
     }
     Ok(())
 }

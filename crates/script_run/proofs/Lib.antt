@@ -1,6 +1,5 @@
 mod Cases
 pub mod EndLemmas
-pub mod MeterLemmas
 pub mod ReadingLemmas
 pub mod RulesLemmas
 mod RunningLemmas

@@ -12,13 +12,22 @@ use Rattle.dock_match.specs.Preemption.{won_from}
 use Rattle.dock_match.proofs.PreemptionLemmas.{holder-stands, holder-stored}
 use Rattle.dock_match.proofs.SmallLemmas.{found-small, holder-small}
 use Rattle.bilateral_match.specs.declared.member.Member.{Member}
+use Rattle.bilateral_match.specs.Known.{is_known_below}
 use Rattle.bilateral_match.specs.Scan.{member_above, ranks_of_dock, where_won}
 use Rattle.bilateral_match.specs.Scenes.{pool_in, request_in, stock_in}
 use Rattle.bilateral_match.proofs.BarLemmas.{none-above, ranks-there, won-above}
-use Rattle.bilateral_match.proofs.KnownLemmas.{known-is}
+use Rattle.bilateral_match.proofs.KnownLemmas.{below-known, known-is}
 use Rattle.bilateral_match.proofs.MemberWeighLemmas.{are-ranks, attributes-in-all, attributes-of-dock, five-in-all, four-of-five, none-dead, none-offered}
 use Rattle.bilateral_match.proofs.MemberWeighLemmas.{won-by, won-or-lost}
 use Rattle.bilateral_match.proofs.members.member_at.Goals as goal
+
+pub returns-then-is_known_below-clause-member : goal.returns-then-is_known_below-clause-member
+returns-then-is_known_below-clause-member g c =
+    let scene = c.args.scene.now in
+    let pool = pool_in g.H.Holdings.is_offered g.H.Holdings.holding scene in
+    let request = request_in scene in
+    below-known pool request scene.number c.args.place c.args.bar c.args.ranking.now.ranks.items c.requires.ranks
+    (ap (is_known_below c.args.bar) (sym c.at-known.ensures) ∙ sym c.if-is_known_below.ensures)
 
 pub returns-then-offered-clause-member : goal.returns-then-offered-clause-member
 returns-then-offered-clause-member g c =
@@ -119,16 +128,21 @@ returns-clause-spent g c =
     let there = c.look-ad.ensures.ad c.args.place at in
     let free = sym c.offered.ensures ∙ c.if-offered.false in
     let spent = c.ranks.ensures.spent in
+    let taking = c.won_from-won.ensures.spent in
     let ranks =
     ranks-there c.args.bar (ranks_of_dock scene.moment request ad) c.in-Some.ranks (sym c.in-Some.is ∙ c.in_ok-weighed.ensures.ranks) in
     let taken = ap (λ h. option_map_or (λ h. attribute_count (holder_world scene.moment stock h)) h 0) (c.holder-holder.ensures.who) in
     record {
-      same = record { tops = spent.same.tops; entry = spent.same.entry; touch = spent.same.touch };
+      same = record {
+        tops = taking.same.tops ∙ spent.same.tops;
+        entry = taking.same.entry ∙ spent.same.entry;
+        touch = taking.same.touch ∙ spent.same.touch;
+      };
       most_evaluations =
           omega (
             arith,
             spent.most_evaluations,
-            c.won_from-won.ensures.evaluations,
+            taking.most_evaluations,
             five-in-all scene.moment stock offered holding request c.args.place slot at ad free advert c.in-Some.ranks there ranks.0,
           );
       most_entries =
@@ -136,10 +150,10 @@ returns-clause-spent g c =
             arith,
             taken,
             spent.most_entries,
-            c.won_from-won.ensures.entries,
+            taking.most_entries,
             attributes-in-all scene.moment stock offered holding request c.args.place slot at ad free advert c.in-Some.ranks there ranks.0,
           );
-      most_looks = omega (arith, spent.most_looks, c.look-ad.ensures.counted, c.won_from-won.ensures.looks);
+      most_looks = omega (arith, spent.most_looks, c.look-ad.ensures.counted, taking.most_looks);
     }
 
 pub returns-clause-ratio : goal.returns-clause-ratio

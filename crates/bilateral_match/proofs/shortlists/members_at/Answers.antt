@@ -3,7 +3,8 @@ use Rattle.bilateral_match.specs.Scan.{attributes_for, evaluations_for, member_a
 use Rattle.bilateral_match.specs.Scenes.{pool_in, request_in, stock_in}
 use Rattle.bilateral_match.proofs.BarLemmas.{no-bar}
 use Rattle.bilateral_match.proofs.LoopLemmas.{finds-all, finds-next, grows}
-use Rattle.bilateral_match.proofs.MeterLemmas.{same-on, spent-ends, spent-stays}
+use Rattle.pool_steps.proofs.MeterLemmas.{same-on}
+use Rattle.bilateral_match.proofs.MeterLemmas.{spent-ends, spent-stays}
 use Rattle.bilateral_match.proofs.shortlists.members_at.Goals as goal
 
 pub member_at-requires-clause-place : goal.member_at-requires-clause-place

@@ -3,7 +3,8 @@ use Rattle.ad_tree.specs.Ad.{ad_frames}
 use Rattle.ad_store.specs.Store.{stock_of}
 use Rattle.bilateral_match.specs.Scan.{attributes_at, evaluations_at, match_at}
 use Rattle.bilateral_match.proofs.LoopLemmas.{finds-all, finds-next, grows}
-use Rattle.bilateral_match.proofs.MeterLemmas.{same-on, spent-ends, spent-stays}
+use Rattle.pool_steps.proofs.MeterLemmas.{same-on}
+use Rattle.bilateral_match.proofs.MeterLemmas.{spent-ends, spent-stays}
 use Rattle.bilateral_match.proofs.weighing.matches_at.Goals as goal
 
 pub weigh-requires-clause-held : goal.weigh-requires-clause-held

@@ -1,15 +1,10 @@
-use Rattle.std.proofs.Common.{◌≡◌, ◌+◌, ℤ, All, Contains, IfOk, Option, subst, take}
-use Rattle.std.proofs.lemmas.Int.{to_z-of_z}
-use Rattle.std.specs.Int.{w128}
+use Rattle.std.proofs.Common.{◌≡◌, ◌+◌, All, Contains, IfOk, Option, subst, take}
 use Rattle.std.proofs.lemmas.List.Elements.{All-take}
 use Rattle.ad_tree.specs.Ad.{ad_frames}
 use Rattle.ad_tree.specs.Small.{IsSmall}
 use Rattle.ad_store.specs.Store.{stock_of}
-use Rattle.ad_eval.specs.Dock.{rank_by}
 use Rattle.eval_scope.specs.Shown.{world_of}
-use Rattle.eval_scope.specs.World.{resource_side}
 use Rattle.dock_match.specs.declared.preemption.Preemption.{Preemption}
-use Rattle.dock_match.specs.Preemption.{taken_by}
 use Rattle.dock_match.proofs.PreemptionLemmas.{some-of, won-of-holder}
 use Rattle.dock_match.proofs.SmallLemmas.{slots-small}
 use Rattle.dock_match.proofs.preemption.won_from.Goals as goal
@@ -22,13 +17,10 @@ slots_world-world-requires-clause-stored g c =
 pub returns-clause-won : goal.returns-clause-won
 returns-clause-won g c =
     let w = world_of c.slots_world-world.result in
-    let stock = stock_of c.args.store.now in
-    let taken =
-    subst (λ (k : ℤ). IfOk c.taken_from.result (λ won. won ≡ taken_by (rank_by w (resource_side w)) k c.in-Some.holder.number c.args.number))
-    (to_z-of_z w128 c.args.regard c.ranges.regard) c.taken_from.ensures.taken in
     subst (λ (won : Option Preemption). IfOk c.taken_from.result (λ p. p ≡ won))
-    (won-of-holder c.args.moment stock c.args.holder c.in-Some.holder w c.args.number c.args.regard c.in-Some.is c.slots_world-world.ensures.world)
-    taken
+    (won-of-holder c.args.moment (stock_of c.args.store.now) c.args.holder c.in-Some.holder w c.args.claimant.number c.args.claimant.rank c.in-Some.is
+    c.slots_world-world.ensures.world)
+    c.taken_from.ensures.taken
 
 pub returns-clause-ratio : goal.returns-clause-ratio
 returns-clause-ratio g c small ads =

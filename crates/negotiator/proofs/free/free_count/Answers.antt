@@ -2,7 +2,7 @@ use Rattle.std.proofs.Common.{◌+◌, ℕ, ap, arith, count_by, refl, sym, ◌�
 use Rattle.std.proofs.lemmas.List.{take_all}
 use Rattle.ad_store.specs.Store.{stock_of}
 use Rattle.claim_table.specs.Table.{jobs_of}
-use Rattle.negotiator.specs.Markets.{is_free}
+use Rattle.job_clusters.specs.Pools.{is_free}
 use Rattle.negotiator.proofs.ActiveLemmas.{free-none, free-one}
 use Rattle.negotiator.proofs.free.free_count.Goals.{else-is_free_slot, then-is_free_slot}
 use Rattle.negotiator.proofs.free.free_count.Goals as goal

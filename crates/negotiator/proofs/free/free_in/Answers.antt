@@ -1,7 +1,7 @@
 use Rattle.std.proofs.Common.{◌+◌, ℕ, ap, arith, sym, ◌∙◌}
 use Rattle.std.proofs.lemmas.List.Sums.{count_by_more_no, count_by_more_yes}
 use Rattle.claim_table.specs.Table.{jobs_of}
-use Rattle.negotiator.specs.Markets.{is_free}
+use Rattle.job_clusters.specs.Pools.{is_free}
 use Rattle.negotiator.proofs.free.free_in.Goals.{else-is_free_slot, then-is_free_slot}
 use Rattle.negotiator.proofs.free.free_in.Goals as goal
 

@@ -1,6 +1,6 @@
 use Rattle.std.proofs.Common.{◌≡◌, ◌≤◌, count_by, take}
 use Rattle.claim_table.specs.Table.{jobs_of}
-use Rattle.negotiator.specs.Markets.{is_free}
+use Rattle.job_clusters.specs.Pools.{is_free}
 use Rattle.negotiator.proofs.free.free_in.Given as goal
 
 abbrev pub invariant-loop-slot : goal.invariant-loop-slot

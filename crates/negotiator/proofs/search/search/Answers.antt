@@ -6,11 +6,11 @@ use Rattle.claim_table.specs.declared.job.Job.{Job}
 use Rattle.claim_table.specs.Jobs.{wanted}
 use Rattle.claim_table.specs.Priorities.{priority_of}
 use Rattle.claim_table.specs.Table.{jobs_of}
+use Rattle.job_clusters.specs.Scenes.{settings_in, stock_in}
+use Rattle.job_clusters.proofs.SmallLemmas.{small-job}
 use Rattle.negotiator.specs.Budget.{entries_for, evaluations_for, looks_for}
 use Rattle.negotiator.specs.Markets.{found, found_for}
-use Rattle.negotiator.specs.Scenes.{settings_in, stock_in}
 use Rattle.negotiator.proofs.SearchLemmas.{request-found, request-found-by-all, request-price, request-wanted}
-use Rattle.negotiator.proofs.SmallLemmas.{small-job}
 use Rattle.negotiator.proofs.search.search.Goals as goal
 
 pub returns-then-len-eq0-clause-found : goal.returns-then-len-eq0-clause-found

@@ -6,8 +6,9 @@ use Rattle.dock_match.specs.Pool.{slot_at}
 use Rattle.claim_table.specs.Jobs.{AreFree, wanted}
 use Rattle.claim_table.specs.Table.{jobs_of}
 use Rattle.gang_ports.specs.Gangs.{gang}
-use Rattle.negotiator.specs.Markets.{found_for, pool_for}
-use Rattle.negotiator.specs.Scenes.{settings_in, stock_in}
+use Rattle.job_clusters.specs.Pools.{pool_for}
+use Rattle.job_clusters.specs.Scenes.{settings_in, stock_in}
+use Rattle.negotiator.specs.Markets.{found_for}
 use Rattle.negotiator.proofs.GangLemmas.{gang-all, slots-distinct, slots-free, slots-many}
 use Rattle.negotiator.proofs.SearchLemmas.{entries-gang, evaluations-gang, found-gang, gang-wanted, looks-gang}
 use Rattle.negotiator.proofs.StoredLemmas.{beside}

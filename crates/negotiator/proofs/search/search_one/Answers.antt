@@ -3,8 +3,8 @@ use Rattle.std.specs.Prelude.{IfSome, option_map}
 use Rattle.std.proofs.lemmas.Option.{IfSome_then}
 use Rattle.std.proofs.lemmas.Result.{IfOk-weaker}
 use Rattle.claim_table.specs.Jobs.{AreFree, wanted}
+use Rattle.job_clusters.specs.Scenes.{jobs_around, settings_in, stock_in}
 use Rattle.negotiator.specs.Markets.{found_for}
-use Rattle.negotiator.specs.Scenes.{jobs_around, settings_in, stock_in}
 use Rattle.negotiator.proofs.SearchLemmas.{entries-one, evaluations-one, found-one, if-each, looks-one, one-all, one-apart, one-free, one-wanted}
 use Rattle.negotiator.proofs.search.search_one.Goals as goal
 

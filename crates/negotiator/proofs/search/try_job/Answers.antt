@@ -5,12 +5,13 @@ use Rattle.claim_table.specs.declared.job.Job.{Job}
 use Rattle.claim_table.specs.declared.job.Stage.{Stage}
 use Rattle.claim_table.specs.Jobs.{AreFree, wanted, with_standing}
 use Rattle.claim_table.specs.Table.{jobs_of}
-use Rattle.negotiator.specs.Budget.{ArePaid}
-use Rattle.negotiator.specs.Clusters.{counted_with}
-use Rattle.negotiator.specs.Markets.{found, is_free, offer_named}
-use Rattle.negotiator.specs.Scenes.{IsReady, settings_in, stock_in}
+use Rattle.job_clusters.specs.Pools.{is_free}
+use Rattle.job_clusters.specs.Scenes.{settings_in, stock_in}
+use Rattle.negotiator.specs.Budget.{ArePaid, counted_with}
+use Rattle.negotiator.specs.Markets.{found, offer_named}
+use Rattle.negotiator.specs.Scenes.{IsReady}
 use Rattle.negotiator.proofs.BudgetLemmas.{fail-paid, idle-within, offer-paid, paid-none, paid-within, search-within}
-use Rattle.negotiator.proofs.ClusterLemmas.{clusters-later, same-clusters}
+use Rattle.negotiator.proofs.KeptLemmas.{clusters-later, same-clusters}
 use Rattle.negotiator.proofs.CycleLemmas.{offer}
 use Rattle.negotiator.proofs.FreeLemmas.{free-given}
 use Rattle.negotiator.proofs.ReadyLemmas.{ready-given, ready-marked}

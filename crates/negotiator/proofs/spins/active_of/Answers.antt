@@ -2,7 +2,8 @@ use Rattle.std.proofs.Common.{◌<◌, ℕ, All, ap, arith, length, set, subst, 
 use Rattle.std.proofs.lemmas.List.{length-set}
 use Rattle.std.proofs.lemmas.List.Elements.{All-nil, All-push}
 use Rattle.claim_table.specs.Table.{jobs_of}
-use Rattle.negotiator.specs.Scenes.{market_in, stock_in, users_at}
+use Rattle.job_clusters.specs.Scenes.{stock_in}
+use Rattle.negotiator.specs.Scenes.{market_in, users_at}
 use Rattle.claim_table.specs.Settings.{settings_of}
 use Rattle.negotiator.proofs.ActiveLemmas.{active-all, active-more, active-same}
 use Rattle.negotiator.proofs.HeadLemmas.{advanced-more, told-active, users-at-same}

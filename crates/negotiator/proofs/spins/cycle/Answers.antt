@@ -1,14 +1,13 @@
 use Rattle.std.proofs.Common.{◌≤◌, All, Bool, List, ℕ, ap, arith, false, replicate, subst, sym, ◌∙◌}
 use Rattle.ad_store.specs.Store.{stock_of}
 use Rattle.claim_table.specs.Table.{jobs_of}
+use Rattle.job_clusters.proofs.ClusterLemmas.{no-clusters}
 use Rattle.negotiator.specs.declared.queues.Queue.{Queue}
-use Rattle.negotiator.specs.Budget.{is_marked}
-use Rattle.negotiator.specs.Clusters.{counted_with}
+use Rattle.negotiator.specs.Budget.{counted_with, is_marked}
 use Rattle.negotiator.specs.Markets.{market_of}
 use Rattle.negotiator.specs.Queues.{AreQueues, IsAhead}
 use Rattle.claim_table.specs.Settings.{settings_of}
 use Rattle.negotiator.proofs.BudgetLemmas.{entries-start, evaluations-start, looks-start, none-marked}
-use Rattle.negotiator.proofs.ClusterLemmas.{no-clusters}
 use Rattle.negotiator.proofs.HeadLemmas.{fresh-ahead}
 use Rattle.negotiator.proofs.ReadyLemmas.{ready-start}
 use Rattle.negotiator.proofs.SpinLoopLemmas.{on_err, part-none}

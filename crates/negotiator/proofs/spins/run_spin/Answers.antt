@@ -1,8 +1,9 @@
 use Rattle.std.proofs.Common.{◌≤◌, ◌<◌, ◌^◌, List, ℕ, All, ap, arith, get_or, length, map, subst, sym, ◌∙◌}
 use Rattle.claim_table.specs.Table.{jobs_of}
-use Rattle.negotiator.specs.Clusters.{counted_with}
 use Rattle.claim_table.specs.Priorities.{priority_of}
-use Rattle.negotiator.specs.Scenes.{market_in, settings_in, stock_in, users_at}
+use Rattle.job_clusters.specs.Scenes.{settings_in, stock_in}
+use Rattle.negotiator.specs.Budget.{counted_with}
+use Rattle.negotiator.specs.Scenes.{market_in, users_at}
 use Rattle.claim_table.specs.Settings.{settings_of}
 use Rattle.negotiator.proofs.BudgetLemmas.{within-none}
 use Rattle.negotiator.proofs.HeadLemmas.{head-later}

@@ -1,10 +1,12 @@
 use Rattle.std.proofs.Common.{List, arith, subst, sym, ◌∙◌}
+use Rattle.pool_steps.proofs.MeterLemmas.{same-none, same-on}
 use Rattle.claim_table.specs.Table.{jobs_of}
+use Rattle.job_clusters.specs.Scenes.{settings_in, stock_in}
 use Rattle.negotiator.specs.declared.answers.Spin.{Spin}
-use Rattle.negotiator.specs.Clusters.{counted_with}
+use Rattle.negotiator.specs.Budget.{counted_with}
 use Rattle.negotiator.specs.Cycle.{offers_of}
-use Rattle.negotiator.specs.Scenes.{market_in, settings_in, stock_in}
-use Rattle.negotiator.proofs.BudgetLemmas.{paid-none, paid-on, paid-within, same-none, same-on, within-on}
+use Rattle.negotiator.specs.Scenes.{market_in}
+use Rattle.negotiator.proofs.BudgetLemmas.{paid-none, paid-on, paid-within, within-on}
 use Rattle.negotiator.proofs.SmallLemmas.{small-offers}
 use Rattle.negotiator.proofs.SpinLoopLemmas.{SpinsLoop, on_err, queues-here, spins-fewer, spins-list, spins-more, spins-start, spins-stopped}
 use Rattle.negotiator.proofs.SpinLoopLemmas.{spins-stopped-behind, spins-table}

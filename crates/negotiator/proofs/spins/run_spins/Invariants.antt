@@ -3,10 +3,12 @@ use Rattle.pool_steps.specs.Spent.{IsPaid, IsSame}
 use Rattle.dock_match.specs.Small.{AreSmallAds}
 use Rattle.claim_table.specs.Small.{AreSmallJobs}
 use Rattle.claim_table.specs.Table.{jobs_of}
-use Rattle.negotiator.specs.Clusters.{AreClusters, counted_with}
+use Rattle.job_clusters.specs.Clusters.{AreClusters}
+use Rattle.job_clusters.specs.Scenes.{settings_in, stock_in}
+use Rattle.negotiator.specs.Budget.{counted_with}
 use Rattle.negotiator.specs.Cycle.{waiting_count}
 use Rattle.negotiator.specs.Queues.{AreQueues, IsAhead}
-use Rattle.negotiator.specs.Scenes.{market_in, settings_in, stock_in}
+use Rattle.negotiator.specs.Scenes.{market_in}
 use Rattle.negotiator.proofs.SpinLoopLemmas.{SpinsLoop}
 use Rattle.negotiator.proofs.spins.run_spins.Given as goal
 

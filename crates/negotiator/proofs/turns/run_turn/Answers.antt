@@ -1,13 +1,14 @@
 use Rattle.std.proofs.Common.{List, ℕ, ap, arith, false, get_or, map, refl, subst, sym, ◌∙◌}
+use Rattle.pool_steps.proofs.MeterLemmas.{same-none, same-on}
 use Rattle.claim_table.specs.Small.{AreSmallJobs}
 use Rattle.claim_table.specs.Table.{jobs_of}
+use Rattle.job_clusters.specs.Scenes.{settings_in, stock_in}
 use Rattle.negotiator.specs.declared.answers.Offered.{Offered}
-use Rattle.negotiator.specs.Clusters.{counted_with}
+use Rattle.negotiator.specs.Budget.{counted_with}
 use Rattle.negotiator.specs.Cycle.{Offer}
 use Rattle.negotiator.specs.Markets.{IsPart, offer_named, with_offers}
-use Rattle.negotiator.specs.Scenes.{settings_in, stock_in}
-use Rattle.negotiator.proofs.BudgetLemmas.{paid-none, paid-on, paid-within, same-none, same-on, within-on}
-use Rattle.negotiator.proofs.ClusterLemmas.{counted-same, same-clusters}
+use Rattle.negotiator.proofs.BudgetLemmas.{paid-none, paid-on, paid-within, within-on}
+use Rattle.negotiator.proofs.KeptLemmas.{counted-same, same-clusters}
 use Rattle.negotiator.proofs.SmallLemmas.{small-offers}
 use Rattle.negotiator.proofs.SpinLoopLemmas.{on_err}
 use Rattle.negotiator.proofs.TurnLoopLemmas.{TurnLoop, ended-all, ended-offers, ended-table, in-slice-either, length-here, loop-same, over-slice, own-place}

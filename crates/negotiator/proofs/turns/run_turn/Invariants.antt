@@ -2,8 +2,9 @@ use Rattle.pool_steps.specs.Spent.{IsPaid, IsSame}
 use Rattle.dock_match.specs.Small.{AreSmallAds}
 use Rattle.claim_table.specs.Small.{AreSmallJobs}
 use Rattle.claim_table.specs.Table.{jobs_of}
-use Rattle.negotiator.specs.Clusters.{AreClusters, counted_with}
-use Rattle.negotiator.specs.Scenes.{settings_in, stock_in}
+use Rattle.job_clusters.specs.Clusters.{AreClusters}
+use Rattle.job_clusters.specs.Scenes.{settings_in, stock_in}
+use Rattle.negotiator.specs.Budget.{counted_with}
 use Rattle.negotiator.proofs.TurnLoopLemmas.{TurnLoop}
 use Rattle.negotiator.proofs.turns.run_turn.Given as goal
 

@@ -1,14 +1,16 @@
 use Rattle.std.proofs.Common.{◌<◌, List, [], ap, arith, get_or, length, refl, slice_get, subst, sym}
 use Rattle.std.specs.Option.{option_map_or}
 use Rattle.std.proofs.lemmas.List.{length-map}
+use Rattle.pool_steps.proofs.MeterLemmas.{same-none, same-on}
 use Rattle.claim_table.specs.Table.{jobs_of}
+use Rattle.job_clusters.specs.Scenes.{settings_in, stock_in}
 use Rattle.negotiator.specs.declared.answers.Turn.{Turn}
 use Rattle.negotiator.specs.declared.queues.Queue.{Queue}
-use Rattle.negotiator.specs.Clusters.{counted_with}
+use Rattle.negotiator.specs.Budget.{counted_with}
 use Rattle.negotiator.specs.Cycle.{offers_in}
-use Rattle.negotiator.specs.Scenes.{settings_in, stock_in, users_at}
+use Rattle.negotiator.specs.Scenes.{users_at}
 use Rattle.negotiator.proofs.ActiveLemmas.{user-here}
-use Rattle.negotiator.proofs.BudgetLemmas.{paid-none, paid-on, paid-within, same-none, same-on, within-on}
+use Rattle.negotiator.proofs.BudgetLemmas.{paid-none, paid-on, paid-within, within-on}
 use Rattle.negotiator.proofs.HeadLemmas.{head-later}
 use Rattle.negotiator.proofs.SmallLemmas.{small-offers}
 use Rattle.negotiator.proofs.SpinLoopLemmas.{TurnsLoop, on_err, own-here, turns-list, turns-more, turns-start, turns-stopped, turns-stopped-behind, turns-table}

@@ -1,5 +1,5 @@
 use Rattle.std.proofs.Common.{arith, refl}
-use Rattle.script_run.proofs.MeterLemmas.{same-none, same-on}
+use Rattle.pool_steps.proofs.MeterLemmas.{same-none, same-on}
 use Rattle.pool_engine.proofs.SummingLemmas.{Summing-behind, Summing-command, Summing-start, Summing-tried, always_err}
 use Rattle.pool_engine.proofs.workload_run.sum_waiting.Goals as goal
 

@@ -1,10 +1,10 @@
 use Rattle.pool_tests.proofs.runs.run_with.Given as goal
 
 abbrev pub ghosts-run_counted-F-Ledger : goal.ghosts-run_counted-F-Ledger
-ghosts-run_counted-F-Ledger g a = record { name = a.tops.name; parts = a.tops.parts }
+ghosts-run_counted-F-Ledger g a = record { name = a.blanks.tops.name; parts = a.blanks.tops.parts }
 
 abbrev pub ghosts-run_counted-T-Ledger : goal.ghosts-run_counted-T-Ledger
-ghosts-run_counted-T-Ledger g a = record { name = a.touch.name; parts = a.touch.parts }
+ghosts-run_counted-T-Ledger g a = record { name = a.blanks.touch.name; parts = a.blanks.touch.parts }
 
 abbrev pub ghosts-run_counted-E-Ledger : goal.ghosts-run_counted-E-Ledger
-ghosts-run_counted-E-Ledger g a = record { name = a.entry.name; parts = a.entry.parts }
+ghosts-run_counted-E-Ledger g a = record { name = a.blanks.entry.name; parts = a.blanks.entry.parts }

@@ -1,7 +1,7 @@
 use Rattle.std.proofs.Common.{arith, length-take, refl}
 use Rattle.std.proofs.lemmas.Result.{err_from_is_err_and}
 use Rattle.script_run.proofs.EndLemmas.{err-words}
-use Rattle.script_run.proofs.MeterLemmas.{same-none, same-on}
+use Rattle.pool_steps.proofs.MeterLemmas.{same-none, same-on}
 use Rattle.script_run.proofs.ReadingLemmas.{Reading-finish, Reading-lost, Reading-past, Reading-piece, Reading-room, Reading-room_last, Reading-start}
 use Rattle.script_run.proofs.ReadingLemmas.{Reading-stopped, take_one}
 use Rattle.script_run.proofs.answering.answer_input.Goals as goal

@@ -1,6 +1,6 @@
 use Rattle.std.proofs.Common.{◌∙◌, arith, refl}
 use Rattle.std.proofs.lemmas.Result.{err_from_is_err_and}
-use Rattle.script_run.proofs.MeterLemmas.{same-none, same-on}
+use Rattle.pool_steps.proofs.MeterLemmas.{same-none, same-on}
 use Rattle.script_run.proofs.RunningLemmas.{Running-item, Running-start, Running-stopped}
 use Rattle.script_run.proofs.TookLemmas.{from_some}
 use Rattle.script_run.proofs.answering.answer_waiting.Goals as goal

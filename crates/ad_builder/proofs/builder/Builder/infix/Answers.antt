@@ -1,7 +1,7 @@
 use Rattle.ad_builder.proofs.BuilderLemmas.{on_ok, infix-carried}
 use Rattle.ad_builder.proofs.builder.Builder.infix.Goals as goal
 
-pub returns-in_ok-expr-in-Ok : goal.returns-in_ok-expr-in-Ok
-returns-in_ok-expr-in-Ok c = λ is_ad st h.
-    on_ok c.put.result (λ put. infix-carried is_ad st c.args.operator c.in_ok-right.ensures c.in-Ok.ensures c.in_ok-expr-in-Ok.ensures
-    (λ x y is too. c.joined-in-Ok.ensures x y is too) put h) c.put.ensures
+pub returns : goal.returns
+returns c = λ is_ad st h.
+    on_ok c.put.result (λ put. infix-carried is_ad st c.args.operator c.value-second.ensures c.value-first.ensures c.in_ok-expr.ensures
+    (λ x y is too. c.joined-2.ensures x y is too) put h) c.put.ensures

@@ -7,7 +7,7 @@ use Rattle.ad_tree.proofs.WalkLemmas.{new-within}
 use Rattle.ad_tree.proofs.draft.Draft.copied_ad.Goals as goal
 
 pub place_definitions-requires : goal.place_definitions-requires
-place_definitions-requires c = new-within 0 [] refl c.new-copy.ensures
+place_definitions-requires c = new-within 0 [] refl c.with_seed-copy.ensures
 
 pub into_ad-requires : goal.into_ad-requires
 into_ad-requires c =
@@ -16,7 +16,7 @@ into_ad-requires c =
     finished_is_ad (draft_frames draft) apart
     (finished_root (frame_of draft.root) (frames_of draft.inner.items) apart c.len.result
     (c.len.ensures ∙ draft.inner.ok.0 ∙ sym (length-map draft.inner.items frame_of))
-    (c.in_ok-place_definitions.ensures 0 [] refl c.new-copy.ensures))
+    (c.in_ok-place_definitions.ensures 0 [] refl c.with_seed-copy.ensures))
 
 pub returns : goal.returns
 returns c =
@@ -24,5 +24,5 @@ returns c =
     if_ok c.into_ad.result
     (λ ad h. h ∙ finished_root (frame_of draft.root) (frames_of draft.inner.items) (apart-draft draft.root draft.inner.items) c.len.result
     (c.len.ensures ∙ draft.inner.ok.0 ∙ sym (length-map draft.inner.items frame_of))
-    (c.in_ok-place_definitions.ensures 0 [] refl c.new-copy.ensures))
+    (c.in_ok-place_definitions.ensures 0 [] refl c.with_seed-copy.ensures))
     c.into_ad.ensures

@@ -10,20 +10,20 @@ into_ad-requires c =
     let draft = c.args.self.now in
     let apart = apart-draft draft.root draft.inner.items in
     phrase_is_ad (draft_frames draft) apart (tree c.args.expr.now)
-    (finished_phrase (draft_frames draft) apart c.count.result c.count.ensures (tree c.args.expr.now) c.new-copy.ensures c.in_ok-expr.ensures)
+    (finished_phrase (draft_frames draft) apart c.count.result c.count.ensures (tree c.args.expr.now) c.with_seed-copy.ensures c.in_ok-expr.ensures)
 
 pub returns-in-Ok-clause-frames : goal.returns-in-Ok-clause-frames
 returns-in-Ok-clause-frames c =
     let draft = c.args.self.now in
     c.in-Ok.ensures
     ∙ finished_phrase (draft_frames draft) (apart-draft draft.root draft.inner.items) c.count.result c.count.ensures (tree c.args.expr.now)
-    c.new-copy.ensures c.in_ok-expr.ensures
+    c.with_seed-copy.ensures c.in_ok-expr.ensures
 
 pub returns-in-Ok-clause-expr : goal.returns-in-Ok-clause-expr
 returns-in-Ok-clause-expr c =
     let draft = c.args.self.now in
     phrase_tree (draft_frames draft) (apart-draft draft.root draft.inner.items) c.count.result c.count.ensures (tree c.args.expr.now)
-    c.new-copy.ensures c.in_ok-expr.ensures
+    c.with_seed-copy.ensures c.in_ok-expr.ensures
 
 pub invariant_of-result : goal.invariant_of-result
 invariant_of-result c =
@@ -32,6 +32,6 @@ invariant_of-result c =
     record {
       is_phrase = ∣ numbered_phrase (spelled_tree (draft_frames draft) (tree c.args.expr.now))
           (c.in-Ok.ensures
-          ∙ finished_phrase (draft_frames draft) apart c.count.result c.count.ensures (tree c.args.expr.now) c.new-copy.ensures c.in_ok-expr.ensures)
-          (phrase_tree (draft_frames draft) apart c.count.result c.count.ensures (tree c.args.expr.now) c.new-copy.ensures c.in_ok-expr.ensures) ∣₁;
+          ∙ finished_phrase (draft_frames draft) apart c.count.result c.count.ensures (tree c.args.expr.now) c.with_seed-copy.ensures c.in_ok-expr.ensures)
+          (phrase_tree (draft_frames draft) apart c.count.result c.count.ensures (tree c.args.expr.now) c.with_seed-copy.ensures c.in_ok-expr.ensures) ∣₁;
     }

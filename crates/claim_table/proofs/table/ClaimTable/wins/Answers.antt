@@ -64,11 +64,12 @@ returns-clause-spent g c =
     let held =
     ap {B = ℕ} (λ (holders : Option Holding). option_map_or (λ holding. attribute_count (holder_world moment stock holding)) holders 0)
     c.holder-holder.ensures.who in
+    let spent = c.won_from.ensures.spent in
     record {
-      same = record { tops = refl; entry = refl; touch = refl };
-      most_evaluations = omega (arith, c.rank.ensures.evaluations, c.won_from.ensures.evaluations);
-      most_entries = omega (arith, held, c.rank.ensures.entries, c.won_from.ensures.entries);
-      most_looks = c.won_from.ensures.looks;
+      same = record { tops = spent.same.tops; entry = spent.same.entry; touch = spent.same.touch };
+      most_evaluations = omega (arith, c.rank.ensures.evaluations, spent.most_evaluations);
+      most_entries = omega (arith, held, c.rank.ensures.entries, spent.most_entries);
+      most_looks = spent.most_looks;
     }
 
 pub returns-clause-ratio : goal.returns-clause-ratio
@@ -96,11 +97,12 @@ returns-in_err-won-clause-spent g c =
     let held =
     ap {B = ℕ} (λ (holders : Option Holding). option_map_or (λ holding. attribute_count (holder_world moment stock holding)) holders 0)
     c.holder-holder.ensures.who in
+    let spent = c.won_from.ensures.spent in
     record {
-      same = record { tops = refl; entry = refl; touch = refl };
-      most_evaluations = omega (arith, c.rank.ensures.evaluations, c.won_from.ensures.evaluations);
-      most_entries = omega (arith, held, c.rank.ensures.entries, c.won_from.ensures.entries);
-      most_looks = c.won_from.ensures.looks;
+      same = record { tops = spent.same.tops; entry = spent.same.entry; touch = spent.same.touch };
+      most_evaluations = omega (arith, c.rank.ensures.evaluations, spent.most_evaluations);
+      most_entries = omega (arith, held, c.rank.ensures.entries, spent.most_entries);
+      most_looks = spent.most_looks;
     }
 
 pub returns-in_err-won-clause-ratio : goal.returns-in_err-won-clause-ratio

@@ -1,14 +1,13 @@
-use Rattle.std.proofs.Common.{◌≡◌, ℕ, Bool, cond, List, Option, Some, None, IfSome, get_or, set, length, position, slice_get, subst, ap, sym, ◌∙◌, refl}
-use Rattle.std.specs.Option.{option_or, is_some}
-use Rattle.std.specs.HashMap.{get}
+use Rattle.std.proofs.Common.{◌≡◌, List, Option, Some, None, IfSome, get_or, set, length, position, slice_get, subst, ap, sym, ◌∙◌, refl}
+use Rattle.std.specs.Option.{option_or}
 use Rattle.std.proofs.lemmas.List.{length-set}
 use Rattle.std.proofs.lemmas.List.Quantifiers.{position-Some}
 use Rattle.std.proofs.lemmas.Option.{slice_get-get_or}
 use Rattle.cycle_guard.specs.declared.guard.Entry.{Entry}
 use Rattle.cycle_guard.specs.declared.guard.Kept.{Kept}
 use Rattle.cycle_guard.specs.Sights.{same_pos}
-use Rattle.cycle_guard.specs.Shown.{entry_of, key_of, same_key, sight_of_entry}
-use Rattle.cycle_guard.proofs.GuardLemmas.{entry_of-kept, entry_of-none, kept_first, kept_other, pending-unseen, refill-same, same_key-same_pos, same_pos-equal}
+use Rattle.cycle_guard.specs.Shown.{entry_of, other_of, sight_of_entry}
+use Rattle.cycle_guard.proofs.GuardLemmas.{entry_of-kept, entry_of-none, kept_first, kept_other, pending-other, refill-same, same_pos-equal}
 use Rattle.cycle_guard.proofs.guard.Guard.finish.Goals as goal
 
 pub returns-in-Some : goal.returns-in-Some
@@ -19,7 +18,7 @@ returns-in-Some c = λ q.
     let i = c.in-Some.place in
     let d : Entry = record { pos = pos; kept = None } in
     let kept : Kept = record { value = c.args.v; height = c.args.height } in
-    let m = get same_key g.others (key_of q) in
+    let m = other_of g.others q in
     let e = get_or es i d in
     let first =
     position-Some (λ x. same_pos x.pos pos) es i d (sym (ap (λ (xs : List Entry). position (λ x. same_pos x.pos pos) xs) c.as_slice.ensures)
@@ -36,32 +35,24 @@ returns-in-Some c = λ q.
     (entry_of-kept es i e d pos q (Some kept) first.0 refl (same_pos-equal e.pos pos first.1) first.2)
     ∙ kept_first (entry_of es q) m pos q kept
 
-pub returns-in-Some-get_mut : goal.returns-in-Some-get_mut
-returns-in-Some-get_mut c = λ q.
+pub keep_other-requires : goal.keep_other-requires
+keep_other-requires c =
+    let g = c.args.self.now in
+    let pos = c.args.pos in
+    let none =
+    entry_of-none g.first.items pos (sym (ap (λ (xs : List Entry). position (λ x. same_pos x.pos pos) xs) c.as_slice.ensures)
+    ∙ (sym c.place_of.ensures ∙ c.in-None.is)) in
+    pending-other (entry_of g.first.items pos) (other_of g.others pos) none c.requires
+
+pub returns-in-None : goal.returns-in-None
+returns-in-None c = λ q.
     let g = c.args.self.now in
     let pos = c.args.pos in
     let es = g.first.items in
     let kept : Kept = record { value = c.args.v; height = c.args.height } in
     let o = entry_of es q in
-    let m = get same_key g.others (key_of q) in
     let none =
     entry_of-none es pos (sym (ap (λ (xs : List Entry). position (λ x. same_pos x.pos pos) xs) c.as_slice.ensures)
     ∙ (sym c.place_of.ensures ∙ c.in-None.is)) in
-    let there = ap is_some (sym c.in-Some-get_mut.ensures.value) in
-    let h = c.get_mut.follows.holds (Some kept) in
-    ap (λ (x : Option (Option Kept)). sight_of_entry (option_or o x)) ((h.3 there).0 (key_of q))
-    ∙ ap (λ (k : ℕ × ℕ × ℕ). sight_of_entry (option_or o (cond (same_key k (key_of q)) (Some (Some kept)) m))) c.key_of.ensures
-    ∙ ap (λ (t : Bool). sight_of_entry (option_or o (cond t (Some (Some kept)) m))) (same_key-same_pos pos q)
-    ∙ kept_other o m pos q kept (λ same. ap (entry_of es) (sym same) ∙ none)
-
-pub returns-in_default : goal.returns-in_default
-returns-in_default c = λ q.
-    let g = c.args.self.now in
-    let pos = c.args.pos in
-    let es = g.first.items in
-    let none =
-    entry_of-none es pos (sym (ap (λ (xs : List Entry). position (λ x. same_pos x.pos pos) xs) c.as_slice.ensures)
-    ∙ (sym c.place_of.ensures ∙ c.in-None.is)) in
-    let absent = sym c.in_default.ensures.value in
-    absurd (pending-unseen (entry_of es pos) (get same_key g.others (key_of pos)) none
-    (ap (λ (k : ℕ × ℕ × ℕ). get same_key g.others k) (sym c.key_of.ensures) ∙ absent) c.requires)
+    ap (λ (x : Option (Option Kept)). sight_of_entry (option_or o x)) (c.keep_other.ensures q)
+    ∙ kept_other o (other_of g.others q) pos q kept (λ same. ap (entry_of es) (sym same) ∙ none)

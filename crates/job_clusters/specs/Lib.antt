@@ -1,0 +1,3 @@
+pub mod Clusters
+pub mod Pools
+pub mod Scenes

@@ -1,5 +1,6 @@
 -- How a builder changes with each instruction.
-use Rattle.std.proofs.Common.{◌≡◌, ℕ, ◌+◌, min, Bool, true, false, ◌&&◌, List, [], ◌∷◌, ◌++◌, length, map, slice_get, slice_set, Some, Result, Ok, Err, IfOk, OnOk, refl}
+use Rattle.std.proofs.Common.{◌≡◌, ℕ, ◌+◌, min, Bool, true, false, ◌&&◌, List, [], ◌∷◌}
+use Rattle.std.proofs.Common.{◌++◌, length, map, slice_get, slice_set, Some, Result, Ok, Err, IfOk, OnOk, refl}
 use Rattle.std.proofs.Common.{sym, subst, ap, ◌∙◌}
 use Rattle.pool_text.specs.declared.language.Lit.TheVariants.{Undefined}
 use Rattle.ad_tree.specs.Draft.{draft_frames}

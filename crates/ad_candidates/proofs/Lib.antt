@@ -1,3 +1,4 @@
+mod BoundLemmas
 mod KnownPlaceLemmas
 mod KnownTestsLemmas
 mod NarrowLemmas

@@ -2,11 +2,11 @@
 ghost use Rattle.std.specs.Prelude.{◌≡◌, ◌≤◌, ◌<◌, List, [], Some, All, IfOk, IfSome, IsTrue, length, slice_get};
 ghost use Rattle.ad_store.specs.Stock.{Advert};
 ghost use Rattle.ad_candidates.specs.Counts.{left_by};
-ghost use Rattle.ad_candidates.specs.KnownTests.{ArePlaces, ArePlacesOfOne, AreTestsKnown, with_room};
+ghost use Rattle.ad_candidates.specs.KnownTests.{ArePlaces, ArePlacesOfOne, AreTestsKnown, BoundsAsClosely, with_room};
 
 use ad_tree::{copy_literal, same_literal};
 use conjunct_plan::{Test, Tests};
-use pool_text::{OutOfMemory, Slots, same_binary};
+use pool_text::{BinOp, Lit, OutOfMemory, Slots, same_binary};
 use std::alloc::Global;
 use std::convert::AsSlice;
 
@@ -45,12 +45,13 @@ impl KnownTests {
         }
     }
 
-    /// Whether the test is known to leave no fewer ads than so many.
+    /// Whether the test is known to leave no fewer ads than so many: it is counted, or one that leaves no ad but such as it leaves.
     pub(crate) fn leaves(&self, test: &Test, many: usize) -> bool
         ensures { IsTrue result → (ads : List Advert) → AreTestsKnown ads self.now → many ≤ left_by ads test.now }
     {
         for k in 0..self.counted.len() {
-            if self.counted[k].least >= many && same_test(&self.counted[k].test, test) {
+            let counted = &self.counted[k];
+            if counted.least >= many && is_as_strict(&counted.test, test) {
                 return true;
             }
         }
@@ -150,6 +151,46 @@ fn make_room<T: Drop>(items: &mut Vec<T>)
 {
     if items.len() >= TESTS_LIMIT {
         items.remove(0);
+    }
+}
+
+// Whether a test leaves no ad that another doesn't leave, as is told at a glance: they are the same, or bound one attribute by
+// whole numbers on one side, and the first bounds it as closely.
+fn is_as_strict(test: &Test, other: &Test) -> bool
+    ensures { IsTrue result → (ads : List Advert) → left_by ads test.now ≤ left_by ads other.now }
+{
+    match (test, other) {
+        (
+            Test::Compare {
+                name: x,
+                op: p,
+                lit: Lit::Integer(m),
+                attr_left: s,
+            },
+            Test::Compare {
+                name: y,
+                op: q,
+                lit: Lit::Integer(n),
+                attr_left: t,
+            },
+        ) => {
+            if s != t || !same_binary(p, q) || x != y {
+                return false;
+            }
+            bounds_as_closely(*p, *s, *m, *n)
+        }
+        _ => same_test(test, other),
+    }
+}
+
+// Whether an attribute beside the number m, on the left or on the right of the operator, makes it true only where it does beside n.
+fn bounds_as_closely(op: BinOp, attr_left: bool, m: i64, n: i64) -> bool
+    ensures { IsTrue result → BoundsAsClosely op attr_left m n }
+{
+    match (op, attr_left) {
+        (BinOp::Greater | BinOp::AtLeast, true) | (BinOp::Less | BinOp::AtMost, false) => m >= n,
+        (BinOp::Less | BinOp::AtMost, true) | (BinOp::Greater | BinOp::AtLeast, false) => m <= n,
+        _ => m == n,
     }
 }
 

@@ -1,5 +1,6 @@
 -- Values are light where all literals are.
-use Rattle.std.proofs.Common.{◌≡◌, ◌≤◌, ℕ, zero, suc, ℤ, pos, negsuc, Bool, true, false, ◌&&◌, refl, List, [], ◌∷◌, length, Option, None, Some, IfSome, option_map}
+use Rattle.std.proofs.Common.{◌≡◌, ◌≤◌, ℕ, zero, suc, ℤ, pos, negsuc, Bool, true, false}
+use Rattle.std.proofs.Common.{◌&&◌, refl, List, [], ◌∷◌, length, Option, None, Some, IfSome, option_map}
 use Rattle.std.proofs.Common.{slice_get, if◌then◌else◌, arith, codes}
 use Rattle.std.specs.Prelude.{unwrap_or}
 use Rattle.std.specs.Option.{option_and_then, option_map_or}

@@ -1,5 +1,6 @@
 -- The words that a name feeds a hasher, as they are read off it.
-use Rattle.std.proofs.Common.{refl, arith, ◌≡◌, ◌≤◌, ◌<◌, ℕ, ◌+◌, ◌-◌, ◌*◌, ◌^◌, List, [], ◌∷◌, length, take, drop, get_or, cond, nat_lt, ap, sym, ◌∙◌, inl, inr, map}
+use Rattle.std.proofs.Common.{refl, arith, ◌≡◌, ◌≤◌, ◌<◌, ℕ, ◌+◌, ◌-◌, ◌*◌, ◌^◌, List, []}
+use Rattle.std.proofs.Common.{◌∷◌, length, take, drop, get_or, cond, nat_lt, ap, sym, ◌∙◌, inl, inr, map}
 use Rattle.std.specs.Char.{to_ascii_lowercase}
 use Rattle.std.specs.Int.{w16, w32, w64, from_be_bytes}
 use Rattle.std.proofs.lemmas.Bool.{cases_lt, le-ltb}

@@ -20,6 +20,7 @@ rank_of fs f = attribute_named fs f (codes "Rank")
 -- the places of both in a frame by itself
 abbrev pub match_attributes_of : Frame → MatchAttributes
 match_attributes_of f = record {
-  requirement = option_or (position (same_name (codes "Requirements")) (names_of f.attributes)) (position (same_name (codes "Constraint")) (names_of f.attributes));
+  requirement = option_or (position (same_name (codes "Requirements")) (names_of f.attributes))
+      (position (same_name (codes "Constraint")) (names_of f.attributes));
   rank = position (same_name (codes "Rank")) (names_of f.attributes);
 }

@@ -1,5 +1,6 @@
 -- An expression that an ad settles has one value beside it for all requests, and so has a rank by that expression.
-use Rattle.std.proofs.Common.{◌≡◌, ◌<◌, ◌+◌, ◌-◌, ℕ, ℤ, pos, zero, suc, Bool, true, false, not, ◌&&◌, List, [], ◌∷◌, All, drop, eqb, get_or, length, set, slice_get}
+use Rattle.std.proofs.Common.{◌≡◌, ◌<◌, ◌+◌, ◌-◌, ℕ, ℤ, pos, zero, suc, Bool, true, false}
+use Rattle.std.proofs.Common.{not, ◌&&◌, List, [], ◌∷◌, All, drop, eqb, get_or, length, set, slice_get}
 use Rattle.std.proofs.Common.{Option, None, Some, is_some, swap_remove, IfSome, if◌then◌else◌, refl, ap, sym, ◌∙◌, subst, arith}
 use Rattle.std.specs.Prelude.{codes, option_map, unwrap_or}
 use Rattle.std.specs.Option.{option_and_then, option_map_or}

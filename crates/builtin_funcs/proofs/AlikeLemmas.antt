@@ -173,7 +173,8 @@ number_row-single : (op : BinOp) (x y : Number) → is_single (number_row op x y
 number_row-single op (Number.Whole x) (Number.Whole y) = integer_row-single op x y
 number_row-single op x y = decimal_row-single op (in_millionths x) (in_millionths y)
 
-on_numbers-single : (row : Number → Number → Plain) → ((x y : Number) → is_single (row x y) ≡ true) → (o p : Option Number) → is_single (on_numbers row o p) ≡ true
+on_numbers-single : (row : Number → Number → Plain) → ((x y : Number) → is_single (row x y) ≡ true) → (o p : Option Number) →
+    is_single (on_numbers row o p) ≡ true
 on_numbers-single row h (Some x) (Some y) = h x y
 on_numbers-single row h (Some x) None = refl
 on_numbers-single row h None p = refl
@@ -427,4 +428,5 @@ module _ {M : AdPlace → AdPlace → Type 0} (one : IsOneToOne M) where
   binary-same op h k = strict-same op h k
 
   pub binary_value-alike : (op : BinOp) {a b c d : Plain} → Alike M a b → Alike M c d → Alike M (binary_value op a c) (binary_value op b d)
-  binary_value-alike op {a} {b} {c} {d} h k = flat-alike (binary_value op a c) (binary_value op b d) (single-flat (binary_value op a c) (binary-single op a c)) (binary-same op h k)
+  binary_value-alike op {a} {b} {c} {d} h k = flat-alike (binary_value op a c) (binary_value op b d)
+      (single-flat (binary_value op a c) (binary-single op a c)) (binary-same op h k)

@@ -26,7 +26,8 @@ use Rattle.builtin_funcs.specs.Texts.{bool_value, boolean_in, int_value, integer
 use Rattle.builtin_funcs.specs.Texts.{string_list_member_value, string_list_size_value, string_value, tail_value, usual_delimiters, written}
 use Rattle.builtin_funcs.proofs.AlikeLemmas.{Each, no_items, more_items, Each-all, Each-any, Each-drop, Each-length, Each-take, Alike, undefineds, errors}
 use Rattle.builtin_funcs.proofs.AlikeLemmas.{booleans, integers, texts, lists, places, IsOneToOne, is_flat, binary-same, bounded-alike, decimal_or_error-single}
-use Rattle.builtin_funcs.proofs.AlikeLemmas.{either-holds, elements-alike, flat-alike, integer_or_error-single, number-alike, on_number-single, same-alike, single-flat}
+use Rattle.builtin_funcs.proofs.AlikeLemmas.{either-holds, elements-alike, flat-alike, integer_or_error-single}
+use Rattle.builtin_funcs.proofs.AlikeLemmas.{number-alike, on_number-single, same-alike, single-flat}
 
 -- ---- rows hold no place
 

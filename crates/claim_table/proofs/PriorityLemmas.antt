@@ -1,6 +1,7 @@
 -- The priorities that are set, and the places of their users.
 use Rattle.std.proofs.Common.{◌≡◌, ◌≤◌, ℕ, zero, suc, Bool, true, false, not, ◌&&◌, ◌||◌, nat_le, cond, if◌then◌else◌, List, [], ◌∷◌, ◌++◌}
-use Rattle.std.proofs.Common.{find, get_or, length, map, position, slice_get, slice_set, All, Option, None, Some, Vec, is_some, bytes_eq, refl, ap, sym, ◌∙◌, arith}
+use Rattle.std.proofs.Common.{find, get_or, length, map, position, slice_get, slice_set, All, Option}
+use Rattle.std.proofs.Common.{None, Some, Vec, is_some, bytes_eq, refl, ap, sym, ◌∙◌, arith}
 use Rattle.std.specs.declared.alloc.Global.{Global}
 use Rattle.std.specs.Prelude.{option_map}
 use Rattle.std.specs.List.{list_any}

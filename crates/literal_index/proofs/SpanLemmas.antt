@@ -1,5 +1,6 @@
 -- Where the attributes stand that pass a test.
-use Rattle.std.proofs.Common.{refl, arith, ◌≡◌, ◌<◌, ◌∙◌, ap, sym, subst, ℕ, ◌-◌, ◌/◌, ◌^◌, ℤ, pos, negsuc, true≢false, Ordering, Bool, true, false, not, ◌&&◌}
+use Rattle.std.proofs.Common.{refl, arith, ◌≡◌, ◌≤◌, ◌<◌, ◌∙◌, ap, sym, subst, ℕ, ◌-◌}
+use Rattle.std.proofs.Common.{◌/◌, ◌^◌, ℤ, pos, negsuc, true≢false, Ordering, Bool, true, false, not, ◌&&◌}
 use Rattle.std.proofs.Common.{cond, nat_cmp, List, Some, Less, Equal, Greater}
 use Rattle.std.specs.Prelude.{◌*ℤ◌, int_lt, int_le}
 use Rattle.std.specs.Cmp.{int_cmp_total, nat_cmp_total}
@@ -25,6 +26,7 @@ use Rattle.literal_index.specs.declared.place.Kind.{Kind}
 use Rattle.literal_index.specs.declared.span.Span.{Span}
 use Rattle.literal_index.specs.Digests.{digest, number_of_text}
 use Rattle.literal_index.specs.Entries.{holds_with, kind_of, value_of}
+use Rattle.literal_index.specs.Shortened.{short, shortened}
 use Rattle.literal_index.specs.Order.{kind_order, place_order}
 use Rattle.literal_index.specs.Spans.{Covers, IsLiteral, failing_span, first_place, last_place, passing_span, numbers_from, numbers_up_to, span_at, span_from}
 use Rattle.literal_index.specs.Spans.{span_up_to}
@@ -136,8 +138,8 @@ same_alike Lit.Undefined Lit.Undefined h = (refl, refl)
 same_alike Lit.Error Lit.Error h = (refl, refl)
 same_alike (Lit.Boolean true) (Lit.Boolean true) h = (refl, refl)
 same_alike (Lit.Boolean false) (Lit.Boolean false) h = (refl, refl)
-same_alike (Lit.Integer m) (Lit.Integer n) h = (refl, ap (λ k. k *ℤ million) (exact_signed m n (tie (int_cmp m n) h)))
-same_alike (Lit.Decimal m) (Lit.Decimal n) h = (refl, exact_signed m n (tie (int_cmp m n) h))
+same_alike (Lit.Integer m) (Lit.Integer n) h = (refl, ap (λ k. shortened (k *ℤ million)) (exact_signed m n (tie (int_cmp m n) h)))
+same_alike (Lit.Decimal m) (Lit.Decimal n) h = (refl, ap shortened (exact_signed m n (tie (int_cmp m n) h)))
 same_alike (Lit.Str s) (Lit.Str t) h = (refl, ap number_of_text (exact_bytes s t (tie (slice_cmp _ s t) (is_eq-slice_cmp s t ∙ h))))
 same_alike a b h = absurd (cc)
 
@@ -146,6 +148,33 @@ alike_covered a b h = (sym h.0, sym h.1)
 
 alike_back : (a b : Lit) → IsAlike a b → IsAlike b a
 alike_back a b h = (sym h.0, sym h.1)
+
+-- ---- numbers in 64 bits
+
+-- the millionths of a number
+abbrev exact_of : Lit → ℤ
+exact_of (Lit.Boolean true) = million
+exact_of (Lit.Integer n) = n *ℤ million
+exact_of (Lit.Decimal m) = m
+exact_of lit = pos 0
+
+-- a number stands by its millionths in 64 bits
+value_exact : (lit : Lit) → kind_of (Some lit) ≡ Kind.Number → value_of (Some lit) ≡ shortened (exact_of lit)
+value_exact (Lit.Boolean true) h = refl
+value_exact (Lit.Boolean false) h = refl
+value_exact (Lit.Integer n) h = refl
+value_exact (Lit.Decimal m) h = refl
+value_exact lit h = absurd (cc)
+
+short_le : (m n : ℕ) → m ≤ n → short m ≤ short n
+short_le m n h = grind arith
+
+-- the order of numbers isn't turned
+shortened_le : (m n : ℤ) → is_le (int_cmp m n) ≡ true → is_le (int_cmp (shortened m) (shortened n)) ≡ true
+shortened_le (pos m) (pos n) h = grind (arith, short_le m n)
+shortened_le (negsuc m) (pos n) h = grind arith
+shortened_le (pos m) (negsuc n) h = absurd (cc)
+shortened_le (negsuc m) (negsuc n) h = grind (arith, short_le n m)
 
 -- ---- strict comparisons
 
@@ -163,7 +192,7 @@ scaled_eq m n h =
 module _ (op : BinOp) (G : Lit → Lit → Type 0)
     (scaled : (m n : ℤ) → is_true (integer_row op m n) ≡ true → is_true (decimal_row op (m *ℤ million) (n *ℤ million)) ≡ true)
     (number : (a b : Lit) → kind_of (Some a) ≡ Kind.Number → kind_of (Some b) ≡ Kind.Number
-    → is_true (decimal_row op (value_of (Some a)) (value_of (Some b))) ≡ true → G a b)
+    → is_true (decimal_row op (exact_of a) (exact_of b)) ≡ true → G a b)
     (text : (s t : List ℕ) → is_true (text_row op s t) ≡ true → G (Lit.Str s) (Lit.Str t)) where
   -- a strict comparison is true of two numbers or of two texts alone
   compared : (a b : Lit) → is_true (strict (strict_row op) (plain_of_lit a) (plain_of_lit b)) ≡ true → G a b
@@ -189,8 +218,10 @@ module _ (op : BinOp) (G : Lit → Lit → Type 0)
 
 equal_alike : (a b : Lit) → is_true (binary_value BinOp.Equal (plain_of_lit a) (plain_of_lit b)) ≡ true → IsAlike a b
 equal_alike =
-    compared BinOp.Equal IsAlike scaled_eq (λ a b ka kb h.
-    (ka ∙ sym kb, exact_signed (value_of (Some a)) (value_of (Some b)) (tie (int_cmp (value_of (Some a)) (value_of (Some b))) h)))
+    compared BinOp.Equal IsAlike scaled_eq (λ a b ka kb h. (
+      ka ∙ sym kb,
+      value_exact a ka ∙ ap shortened (exact_signed (exact_of a) (exact_of b) (tie (int_cmp (exact_of a) (exact_of b)) h)) ∙ sym (value_exact b kb),
+    ))
     (λ s t h. (refl, ap (λ bytes. pos (digest bytes / 2)) (exact_bytes (folded s) (folded t) (tie (text_order s t) h))))
 
 less_le : (x y : ℤ) → int_lt x y ≡ true → is_le (int_cmp x y) ≡ true
@@ -229,26 +260,31 @@ Rises a b = Covers (span_up_to b) (kind_of (Some a)) (value_of (Some a)) × Cove
 abbrev Falls : Lit → Lit → Type 0
 Falls a b = Rises b a
 
-rise : (a b : Lit) → kind_of (Some a) ≡ Kind.Number → kind_of (Some b) ≡ Kind.Number → is_le (int_cmp (value_of (Some a)) (value_of (Some b))) ≡ true
-    → Rises a b
-rise a b ka kb h = (number_up_to _ _ (value_of (Some a)) (value_of (Some b)) ka kb h, number_from _ _ (value_of (Some b)) (value_of (Some a)) kb ka h)
+rise : (a b : Lit) → kind_of (Some a) ≡ Kind.Number → kind_of (Some b) ≡ Kind.Number → is_le (int_cmp (exact_of a) (exact_of b)) ≡ true → Rises a b
+rise a b ka kb h =
+    (number_up_to _ _ (value_of (Some a)) (value_of (Some b)) ka kb stands, number_from _ _ (value_of (Some b)) (value_of (Some a)) kb ka stands)
+  where
+    stands : is_le (int_cmp (value_of (Some a)) (value_of (Some b))) ≡ true
+    stands =
+        subst (λ m. is_le (int_cmp m (value_of (Some b))) ≡ true) (sym (value_exact a ka))
+        (subst (λ n. is_le (int_cmp (shortened (exact_of a)) n) ≡ true) (sym (value_exact b kb)) (shortened_le (exact_of a) (exact_of b) h))
 
 texts : (s t : List ℕ) → Rises (Lit.Str s) (Lit.Str t)
 texts s t = (is_literal (Lit.Str s), is_literal (Lit.Str t))
 
 less_rises : (a b : Lit) → is_true (binary_value BinOp.Less (plain_of_lit a) (plain_of_lit b)) ≡ true → Rises a b
-less_rises = compared BinOp.Less Rises scaled_lt (λ a b ka kb h. rise a b ka kb (less_le (value_of (Some a)) (value_of (Some b)) h)) (λ s t h. texts s t)
+less_rises = compared BinOp.Less Rises scaled_lt (λ a b ka kb h. rise a b ka kb (less_le (exact_of a) (exact_of b) h)) (λ s t h. texts s t)
 
 most_rises : (a b : Lit) → is_true (binary_value BinOp.AtMost (plain_of_lit a) (plain_of_lit b)) ≡ true → Rises a b
-most_rises = compared BinOp.AtMost Rises scaled_le (λ a b ka kb h. rise a b ka kb (most_le (value_of (Some a)) (value_of (Some b)) h)) (λ s t h. texts s t)
+most_rises = compared BinOp.AtMost Rises scaled_le (λ a b ka kb h. rise a b ka kb (most_le (exact_of a) (exact_of b) h)) (λ s t h. texts s t)
 
 greater_falls : (a b : Lit) → is_true (binary_value BinOp.Greater (plain_of_lit a) (plain_of_lit b)) ≡ true → Falls a b
 greater_falls =
-    compared BinOp.Greater Falls (λ m n. scaled_lt n m) (λ a b ka kb h. rise b a kb ka (less_le (value_of (Some b)) (value_of (Some a)) h)) (λ s t h. texts t s)
+    compared BinOp.Greater Falls (λ m n. scaled_lt n m) (λ a b ka kb h. rise b a kb ka (less_le (exact_of b) (exact_of a) h)) (λ s t h. texts t s)
 
 least_falls : (a b : Lit) → is_true (binary_value BinOp.AtLeast (plain_of_lit a) (plain_of_lit b)) ≡ true → Falls a b
 least_falls =
-    compared BinOp.AtLeast Falls (λ m n. scaled_le n m) (λ a b ka kb h. rise b a kb ka (most_le (value_of (Some b)) (value_of (Some a)) h)) (λ s t h. texts t s)
+    compared BinOp.AtLeast Falls (λ m n. scaled_le n m) (λ a b ka kb h. rise b a kb ka (most_le (exact_of b) (exact_of a) h)) (λ s t h. texts t s)
 
 -- ---- tests
 

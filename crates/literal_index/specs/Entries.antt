@@ -19,6 +19,7 @@ use Rattle.literal_index.specs.declared.entry.Choice.{Choice}
 use Rattle.literal_index.specs.Digests.{digest, number_of_text}
 use Rattle.literal_index.specs.Order.{place_order}
 use Rattle.literal_index.specs.Rows.{Row, ad_under}
+use Rattle.literal_index.specs.Shortened.{shortened}
 
 -- the literal that an expression is
 abbrev pub literal_of : Tree → Option Lit
@@ -35,15 +36,15 @@ kind_of (Some (Lit.Integer n)) = Kind.Number
 kind_of (Some (Lit.Decimal m)) = Kind.Number
 kind_of (Some (Lit.Str t)) = Kind.Str
 
--- the number of a literal: its millionths, with 1 for true, and a digest for a text
+-- the number of a literal: its millionths, shortened, with 1 for true, and a digest for a text
 abbrev pub value_of : Option Lit → ℤ
 value_of None = pos 0
 value_of (Some Lit.Undefined) = pos 0
 value_of (Some Lit.Error) = pos 0
 value_of (Some (Lit.Boolean true)) = million
 value_of (Some (Lit.Boolean false)) = pos 0
-value_of (Some (Lit.Integer n)) = n *ℤ million
-value_of (Some (Lit.Decimal m)) = m
+value_of (Some (Lit.Integer n)) = shortened (n *ℤ million)
+value_of (Some (Lit.Decimal m)) = shortened m
 value_of (Some (Lit.Str t)) = number_of_text t
 
 -- the place of attribute k of the ad under a slot

@@ -5,5 +5,6 @@ pub mod Order
 pub mod Packed
 pub mod Rows
 pub mod Selections
+pub mod Shortened
 pub mod Shown
 pub mod Spans

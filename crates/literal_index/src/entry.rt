@@ -10,6 +10,7 @@ use crate::digest::number_of_text;
 use crate::literal::Literal;
 use crate::name::{Name, NameCache};
 use crate::place::{Kind, Place};
+use crate::shortened::{ONE, shortened};
 use ad_tree::Expr;
 use ad_value::{MILLION, is_true_of_literals};
 use conjunct_plan::Test;
@@ -151,15 +152,15 @@ pub fn kind_of(found: Option<&Lit>) -> Kind
     }
 }
 
-/// The number by which such attributes are ordered. Numbers of all kinds count in millionths, and so by exact value.
-pub fn value_of(found: Option<&Lit>) -> i128
+/// The number by which such attributes are ordered. Numbers of all kinds count in millionths.
+pub fn value_of(found: Option<&Lit>) -> i64
     ensures { result ≡ value_of (option_copied found.entry) }
 {
     match found {
-        Some(Lit::Boolean(true)) => MILLION,
-        Some(Lit::Integer(n)) => i128::from(*n) * MILLION,
-        Some(Lit::Decimal(millionths)) => i128::from(*millionths),
-        Some(Lit::Str(text)) => i128::from(number_of_text(text.bytes())),
+        Some(Lit::Boolean(true)) => ONE,
+        Some(Lit::Integer(n)) => shortened(i128::from(*n) * MILLION),
+        Some(Lit::Decimal(millionths)) => shortened(i128::from(*millionths)),
+        Some(Lit::Str(text)) => number_of_text(text.bytes()),
         _ => 0,
     }
 }

@@ -9,6 +9,7 @@ mod literal;
 mod name;
 mod place;
 mod selection;
+mod shortened;
 mod span;
 
 pub use entry::is_pair;

@@ -18,12 +18,13 @@ pub enum Kind {
 }
 
 /// The place of an attribute of an ad: by the digest of its name, then by what its expression is, then by the number or
-/// the digest of its literal. A number counts in millionths, so that 2 and 2.0 stand side by side. The ad's slot and the
-/// attribute's place in the ad come last and keep equal ones apart.
+/// the digest of its literal. A number counts in millionths, so that 2 and 2.0 stand side by side, and the largest without
+/// their last bits, so that it takes eight bytes. The ad's slot and the attribute's place in the ad come last and keep equal
+/// ones apart.
 #[derive(Clone, Copy)]
 pub struct Place {
     pub name: u64,
-    pub value: i128,
+    pub value: i64,
     pub slot: usize,
     pub attr: u32,
     pub kind: Kind,

@@ -4,7 +4,7 @@ ghost use Rattle.literal_index.specs.Spans.{failing_span, first_in_both, first_p
 
 use crate::entry::{kind_of, value_of};
 use crate::place::{Kind, Place};
-use ad_value::MILLION;
+use crate::shortened::ONE;
 use conjunct_plan::Test;
 use pool_text::{BinOp, Lit};
 
@@ -12,11 +12,11 @@ use pool_text::{BinOp, Lit};
 #[derive(Clone, Copy)]
 pub enum Span {
     /// The attributes of this kind and this number.
-    At(Kind, i128),
+    At(Kind, i64),
     /// The numbers up to this one.
-    UpTo(i128),
+    UpTo(i64),
     /// The numbers from this one on.
-    From(i128),
+    From(i64),
     /// All literals.
     Literals,
 }
@@ -27,7 +27,7 @@ impl Span {
         ensures { result ≡ passing_span test.now }
     {
         match test {
-            Test::Truth { .. } => Span::At(Kind::Number, MILLION),
+            Test::Truth { .. } => Span::At(Kind::Number, ONE),
             Test::Compare {
                 op,
                 lit,
@@ -85,7 +85,7 @@ impl Span {
             Span::At(kind, value) => (kind, value),
             Span::UpTo(value) => (Kind::Number, value),
             Span::From(_) => (Kind::Str, 0),
-            Span::Literals => (Kind::Str, i128::from(i64::MAX)),
+            Span::Literals => (Kind::Str, i64::MAX),
         };
         Place {
             name,

@@ -132,7 +132,8 @@ module _ (stock : Stock) (beside : AreBeside stock.ads stock.slots) where
         ∙ ap (λ l. name_in stock (slot_at stock p) ∷ l) (names-of places (All-tail (λ p. p < length stock.ads) p places within))
 
     -- the names of a gang are those in its slots
-    pub gang-names : (request : List Frame) (ports : List Port) → option_map (map names_at) (gang (seen.pool_in moment stock.ads settings (map (queued stock) jobs)) request ports)
+    pub gang-names : (request : List Frame) (ports : List Port) → option_map (map names_at)
+        (gang (seen.pool_in moment stock.ads settings (map (queued stock) jobs)) request ports)
         ≡ option_map (map (name_in stock)) (option_map (map (slot_at stock)) (gang (pools.pool_for moment stock settings jobs) request ports))
     gang-names request ports =
         ap (option_map (map names_at)) (gang-seen request ports)

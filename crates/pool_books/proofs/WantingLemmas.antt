@@ -1,5 +1,6 @@
 -- What stands where memory was wanting.
-use Rattle.std.proofs.Common.{◌≡◌, ℕ, All, Bool, true, false, cond, List, [], ◌∷◌, length, map, Option, None, Some, is_some, Result, Ok, Err, IfNone, IfOk, IfSome}
+use Rattle.std.proofs.Common.{◌≡◌, ℕ, All, Bool, true, false, cond, List, [], ◌∷◌, length}
+use Rattle.std.proofs.Common.{map, Option, None, Some, is_some, Result, Ok, Err, IfNone, IfOk, IfSome}
 use Rattle.std.proofs.Common.{OnErr, bytes_eq, refl, sym, ◌∙◌, ap, subst}
 use Rattle.ad_tree.specs.declared.request.Request.{Request}
 use Rattle.ad_store.specs.Answers.{slot_put}
@@ -34,7 +35,8 @@ slots-unnamed name (a ∷ ads) (s ∷ slots) none = by (is_named name a) none (s
 
 stock-unnamed : (name : List ℕ) (stock : Stock) → length stock.ads ≡ length stock.slots → slot_named name stock ≡ None → stock_without name stock ≡ stock
 stock-unnamed name stock long none =
-    let absent = without-absent name stock.ads (sym (found-any (is_named name) stock.ads) ∙ ap is_some (slot_beside-none (is_named name) stock.ads stock.slots long none)) in
+    let absent = without-absent name stock.ads
+    (sym (found-any (is_named name) stock.ads) ∙ ap is_some (slot_beside-none (is_named name) stock.ads stock.slots long none)) in
     λ i. record { ads = absent i; slots = slots-unnamed name stock.ads stock.slots none i }
 
 -- ---- an ad that isn't put

@@ -1,7 +1,8 @@
 // Pools with as many ads, as much text and as many faults as there may be.
-use crate::runs::{Case, Host, assert_run, host_of, run};
+use crate::runs::assert_run;
 use pool_engine::RunEnd;
 use pool_text::{OutOfMemory, Text, append_count};
+use run_fixtures::{Case, Host, host_of, run};
 use std::alloc::Global;
 use std::process::Abort;
 use std::test::Fail;

@@ -4,14 +4,8 @@
 #[cfg(test)]
 mod crowds;
 #[cfg(test)]
-mod faults;
-#[cfg(test)]
-mod mail;
-#[cfg(test)]
 mod memory;
 #[cfg(test)]
 mod runs;
 #[cfg(test)]
 mod wire;
-#[cfg(test)]
-mod workloads;

@@ -1,7 +1,8 @@
 // The memory of many runs in one process.
-use crate::runs::{Case, assert_run, host_of};
+use crate::runs::assert_run;
 use pool_engine::RunEnd;
 use pool_text::{OutOfMemory, Text, append_count, read_number};
+use run_fixtures::{Case, host_of};
 use std::alloc::Global;
 use std::fs;
 use std::test::Fail;

@@ -1,9 +1,8 @@
 // Schedules of the claiming protocol with their replies, over sources and sinks in memory that are cut and fail.
-use crate::mail::texts;
-use crate::runs::{Case, Host, host_of, run_alone, source_of};
 use pool_engine::RunEnd;
 use pool_io::MemorySource;
 use pool_text::{OutOfMemory, Text};
+use run_fixtures::{Case, Host, host_of, run_alone, source_of, texts};
 use std::process::Abort;
 use std::test::Fail;
 

@@ -1,8 +1,6 @@
-//! Tests of the small crates: texts, slices, streams, mailboxes, lines and blocks, refusals, the wire's ends, workloads.
+//! Tests of the small crates: texts, slices, lines and blocks, refusals, the wire's ends, workloads.
 #![tactic(auto)]
 
-#[cfg(test)]
-mod boxes;
 #[cfg(test)]
 mod lines;
 #[cfg(test)]
@@ -11,8 +9,6 @@ mod replies;
 mod scripts;
 #[cfg(test)]
 mod slices;
-#[cfg(test)]
-mod streams;
 #[cfg(test)]
 mod texts;
 #[cfg(test)]

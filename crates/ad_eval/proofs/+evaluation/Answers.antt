@@ -1,4 +1,5 @@
-use Rattle.std.proofs.Common.{◌≡◌, ◌≤◌, ◌<◌, ◌+◌, ℕ, true, false, List, [], ◌∷◌, ◌++◌, length, drop, Some, Err, option_map, max, arith, refl, ap, sym, ◌∙◌, subst}
+use Rattle.std.proofs.Common.{◌≡◌, ◌≤◌, ◌<◌, ◌+◌, ℕ, true, false, List, [], ◌∷◌, ◌++◌}
+use Rattle.std.proofs.Common.{length, drop, Some, Err, option_map, max, arith, refl, ap, sym, ◌∙◌, subst}
 use Rattle.std.specs.Option.{option_and_then}
 use Rattle.ad_tree.specs.Tree.{Tree, Trees, pack, size, size_all, tree, trees, three}
 use Rattle.ad_tree.proofs.TreeLemmas.{size-positive, size-at}
@@ -31,7 +32,8 @@ use Rattle.ad_eval.proofs.SceneLemmas.{in_all, in_any, in_binary, in_call, in_ch
 use Rattle.builtin_funcs.specs.Calls.{is_known}
 use Rattle.ad_eval.proofs.ChainLemmas.{all_demanded-from, called-choice, called-function, called-unknown, conditional-three, conditional-wrong, chained-decided}
 use Rattle.ad_eval.proofs.ChainLemmas.{chained-end, chained-from, listed-end, listed-from, pack-three, values-end}
-use Rattle.ad_eval.proofs.EnterLemmas.{answer_there_none, answer_there_some, answers_literal, counts_entered, counts_equal, counts_kept, counts_there, inner_work, keeps}
+use Rattle.ad_eval.proofs.EnterLemmas.{answer_there_none, answer_there_some, answers_literal, counts_entered}
+use Rattle.ad_eval.proofs.EnterLemmas.{counts_equal, counts_kept, counts_there, inner_work, keeps}
 use Rattle.ad_eval.proofs.EnterLemmas.{ready_there, recalls, world_has, world_there}
 use Rattle.ad_eval.proofs.TopLemmas.{scene_world}
 use Rattle.ad_eval.proofs.+evaluation.Goals as goal
@@ -61,7 +63,8 @@ evaluation::evaluate-returns-in-Frame g t c =
     let is = shape-Frame c.args.expr.now c.in-Frame.frame c.in-Frame.is in
     record {
       answer =
-          finishes w s.left (values_in s e) g0 g0 (values_in s e) 0 c.nested_ad.result (begins w s.left (values_in s e) (values_in s e) g0 c.requires (λ n. refl))
+          finishes w s.left (values_in s e) g0 g0 (values_in s e) 0 c.nested_ad.result
+          (begins w s.left (values_in s e) (values_in s e) g0 c.requires (λ n. refl))
           (λ n. in_frame s e n c.in-Frame.frame is ∙ ap Some (sym c.nested_ad.ensures.value)) c.nested_ad.ensures.height;
       counted = counts_same w n0 g0;
     }

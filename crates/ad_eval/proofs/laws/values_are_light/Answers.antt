@@ -9,7 +9,8 @@ returns c =
     let w = world_of c.args.world.now in
     record {
       expression = λ written light.
-          light-or_error (value_with references w c.args.at (tree c.args.expr.now)) (value_with-light w written references c.args.at (tree c.args.expr.now) light);
+          light-or_error (value_with references w c.args.at (tree c.args.expr.now))
+          (value_with-light w written references c.args.at (tree c.args.expr.now) light);
       attribute = λ written s. light-or_error (value_at references w s) (value_at-light w written references s);
       kept = λ written n s. value_at-light w written n s;
     }

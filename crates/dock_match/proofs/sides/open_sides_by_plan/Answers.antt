@@ -10,4 +10,5 @@ returns c =
     let request = ad_frames c.args.request.now.ad in
     let ad = ad_frames c.args.ad.now in
     c.open_beside.ensures
-    ∙ ap (λ (asked : Verdict). open_beside asked request c.args.frame ad) (c.verdict.ensures request c.args.frame (labels_of c.args.request.now.ports) c.requires.planned)
+    ∙ ap (λ (asked : Verdict). open_beside asked request c.args.frame ad)
+    (c.verdict.ensures request c.args.frame (labels_of c.args.request.now.ports) c.requires.planned)

@@ -20,7 +20,8 @@ within g c = omega (arith, c.loop-resource-test.true, c.loop-resource.auto.resou
 item-is : (g : Over) (c : After-resource-item g)
     → c.resource-item.result ≡ get_or c.args.resources.now c.loop-resource.resource-index c.resource-item.result
 item-is g c =
-    item-at (weighed_in (world_of c.args.prefix.now.world.now) c.args.prefix.now.before.now) c.args.resources.now c.loop-resource.resources c.loop-resource.resource-index
+    item-at (weighed_in (world_of c.args.prefix.now.world.now) c.args.prefix.now.before.now) c.args.resources.now c.loop-resource.resources
+    c.loop-resource.resource-index
     c.resource-item.result c.resource-item.is c.loop-resource.invariant.kept
 
 -- what weighing it took
@@ -40,7 +41,8 @@ ratio : (g : Over) (c : After-weigh g) → AreSmall (world_of c.args.prefix.now.
 ratio g c small are =
     let here : c.loop-resource.resource-index < length c.args.resources.now =
     omega (arith, c.loop-resource-test.true, c.loop-resource.auto.resource-index-end, c.loop-resource.auto.resources) in
-    let fits = item-hold HasSmall (weighed_in (world_of c.args.prefix.now.world.now) c.args.prefix.now.before.now) c.args.resources.now c.loop-resource.resources
+    let fits = item-hold HasSmall (weighed_in (world_of c.args.prefix.now.world.now) c.args.prefix.now.before.now) c.args.resources.now
+    c.loop-resource.resources
     c.loop-resource.resource-index c.resource-item.result here c.resource-item.is c.loop-resource.invariant.kept are in
     omega (arith, c.loop-resource.invariant.ratio small are, c.weigh.ensures.ratio small fits)
 
@@ -63,7 +65,8 @@ returns-in_err-found-clause-evaluations g c =
 pub returns-in_err-found-clause-entries : goal.returns-in_err-found-clause-entries
 returns-in_err-found-clause-entries g c =
     let p = goal.at.returns-in_err-found-clause-entries g c in
-    count-within (attributes_of (world_of c.args.prefix.now.world.now) c.args.prefix.now.before.now) c.args.resources.now c.loop-resource.resource-index c.args.entry.now
+    count-within (attributes_of (world_of c.args.prefix.now.world.now) c.args.prefix.now.before.now) c.args.resources.now c.loop-resource.resource-index
+    c.args.entry.now
     c.loop-resource.entry c.loop-resource.invariant.entries c.resource-item.result c.weigh.new.entry (within g p.After-resource-item)
     (item-is g p.After-resource-item) (entries g p.After-weigh)
 
@@ -80,7 +83,8 @@ returns-in_err-keep-clause-evaluations g c =
 pub returns-in_err-keep-clause-entries : goal.returns-in_err-keep-clause-entries
 returns-in_err-keep-clause-entries g c =
     let p = goal.at.returns-in_err-keep-clause-entries g c in
-    count-within (attributes_of (world_of c.args.prefix.now.world.now) c.args.prefix.now.before.now) c.args.resources.now c.loop-resource.resource-index c.args.entry.now
+    count-within (attributes_of (world_of c.args.prefix.now.world.now) c.args.prefix.now.before.now) c.args.resources.now c.loop-resource.resource-index
+    c.args.entry.now
     c.loop-resource.entry c.loop-resource.invariant.entries c.resource-item.result c.weigh.new.entry (within g p.After-resource-item)
     (item-is g p.After-resource-item) (entries g p.After-weigh)
 
@@ -133,7 +137,8 @@ returns-clause-evaluations g c =
 
 pub returns-clause-entries : goal.returns-clause-entries
 returns-clause-entries g c =
-    count-all (attributes_of (world_of c.args.prefix.now.world.now) c.args.prefix.now.before.now) c.args.resources.now c.loop-resource.resource-index c.args.entry.now
+    count-all (attributes_of (world_of c.args.prefix.now.world.now) c.args.prefix.now.before.now) c.args.resources.now c.loop-resource.resource-index
+    c.args.entry.now
     c.loop-resource.entry c.loop-resource.invariant.entries
     (omega (arith, c.loop-resource-test.false, c.loop-resource.auto.resource-index-end, c.loop-resource.auto.resources))
 

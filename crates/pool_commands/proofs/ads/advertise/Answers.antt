@@ -25,7 +25,8 @@ pub returns-in-Ok-Added-clause-step : goal.returns-in-Ok-Added-clause-step
 returns-in-Ok-Added-clause-step g c = λ priorities.
     let block = c.args.advertisement.block.now in
     let put = c.in-Ok-Added.ensures in
-    advertise-added (state_with c.args.moment priorities c.args.books.now) c.args.advertisement.name.now c.bytes.result.now c.args.advertisement.lifetime (length block) (ad_outcome block)
+    advertise-added (state_with c.args.moment priorities c.args.books.now) c.args.advertisement.name.now c.bytes.result.now c.args.advertisement.lifetime
+    (length block) (ad_outcome block)
     c.in-Ok.ad (ads_of c.put.new.self.ads) (queue_of c.put.new.self) (c.in-Ok.ensures.outcome (ad_outcome block) (ad_outcome-has block)) c.bytes.ensures
     put.jobs c.in_ok-named.named c.in_ok-named.ensures.text put.room put.ads (sym (ap is_added c.in-Ok-Added.field-0-is) ∙ put.added)
 
@@ -33,7 +34,8 @@ pub returns-in-Ok-Replaced-clause-step : goal.returns-in-Ok-Replaced-clause-step
 returns-in-Ok-Replaced-clause-step g c = λ priorities.
     let block = c.args.advertisement.block.now in
     let put = c.in-Ok-Replaced.ensures in
-    advertise-replaced (state_with c.args.moment priorities c.args.books.now) c.args.advertisement.name.now c.bytes.result.now c.args.advertisement.lifetime (length block)
+    advertise-replaced (state_with c.args.moment priorities c.args.books.now) c.args.advertisement.name.now c.bytes.result.now c.args.advertisement.lifetime
+    (length block)
     (ad_outcome block) c.in-Ok.ad (ads_of c.put.new.self.ads) (queue_of c.put.new.self) (c.in-Ok.ensures.outcome (ad_outcome block) (ad_outcome-has block))
     c.bytes.ensures put.jobs c.in_ok-named.named c.in_ok-named.ensures.text put.room put.ads (sym (ap is_added c.in-Ok-Replaced.field-0-is) ∙ put.added)
 
@@ -41,7 +43,8 @@ pub returns-in-Err-Full-clause-step : goal.returns-in-Err-Full-clause-step
 returns-in-Err-Full-clause-step g c = λ priorities.
     let block = c.args.advertisement.block.now in
     let cause = c.in-Err-Full.ensures.cause (λ same. let no : fault.Full ≡ fault.OutOfMemory = sym c.in-Err-Full.field-0-is ∙ same in absurd (cc)) in
-    advertise-full (state_with c.args.moment priorities c.args.books.now) c.args.advertisement.name.now c.bytes.result.now c.args.advertisement.lifetime (length block) (ad_outcome block)
+    advertise-full (state_with c.args.moment priorities c.args.books.now) c.args.advertisement.name.now c.bytes.result.now c.args.advertisement.lifetime
+    (length block) (ad_outcome block)
     c.in-Ok.ad (ads_of c.put.new.self.ads) (queue_of c.put.new.self) (c.in-Ok.ensures.outcome (ad_outcome block) (ad_outcome-has block)) c.bytes.ensures
     cause.2 fault.Full (cause.0 ∙ ap Some c.in-Err-Full.field-0-is) cause.1
 
@@ -50,6 +53,7 @@ returns-in-Err-FullText-clause-step g c = λ priorities.
     let block = c.args.advertisement.block.now in
     let cause =
     c.in-Err-FullText.ensures.cause (λ same. let no : fault.FullText ≡ fault.OutOfMemory = sym c.in-Err-FullText.field-0-is ∙ same in absurd (cc)) in
-    advertise-full (state_with c.args.moment priorities c.args.books.now) c.args.advertisement.name.now c.bytes.result.now c.args.advertisement.lifetime (length block) (ad_outcome block)
+    advertise-full (state_with c.args.moment priorities c.args.books.now) c.args.advertisement.name.now c.bytes.result.now c.args.advertisement.lifetime
+    (length block) (ad_outcome block)
     c.in-Ok.ad (ads_of c.put.new.self.ads) (queue_of c.put.new.self) (c.in-Ok.ensures.outcome (ad_outcome block) (ad_outcome-has block)) c.bytes.ensures
     cause.2 fault.FullText (cause.0 ∙ ap Some c.in-Err-FullText.field-0-is) cause.1

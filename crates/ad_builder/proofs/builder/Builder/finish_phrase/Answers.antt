@@ -21,5 +21,6 @@ returns-then-is_steady c =
 pub returns-else-is_steady : goal.returns-else-is_steady
 returns-else-is_steady c =
     let only = ap (map slot) c.in-Some.ensures.1 in
-    λ st h. if_ok_both c.finish_phrase.result (λ phrase is same. (phrase-held c.args.self st only h c.if-not-is_built.false is, phrase_tree-held c.args.self st only h c.if-not-is_built.false same))
+    λ st h. if_ok_both c.finish_phrase.result
+    (λ phrase is same. (phrase-held c.args.self st only h c.if-not-is_built.false is, phrase_tree-held c.args.self st only h c.if-not-is_built.false same))
     c.finish_phrase.ensures.frames c.finish_phrase.ensures.expr

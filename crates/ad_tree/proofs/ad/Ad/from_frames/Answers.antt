@@ -10,7 +10,8 @@ invariant_of-result-clause-is_ad c =
     let old = c.args.inner in
     let new = c.shrink-2.new.frames in
     let whole : take old.len (new ++ drop (length new) old.items) ≡ new =
-    ap (λ (rest : List AdFrame). take old.len (new ++ rest)) (drop_all (length new) old.items (omega (arith, c.shrink-2.auto.frames, ap length c.deref_mut.ensures.value)))
+    ap (λ (rest : List AdFrame). take old.len (new ++ rest))
+    (drop_all (length new) old.items (omega (arith, c.shrink-2.auto.frames, ap length c.deref_mut.ensures.value)))
     ∙ ap (take old.len) (append-nil new)
     ∙ take_all old.len new (omega (arith, c.shrink-2.auto.frames, ap length c.deref_mut.ensures.value, old.ok.0)) in
     let inner : frames_of c.shrink_to_fit.new.self.items ≡ frames_of old.items =

@@ -22,6 +22,7 @@ invariant_of-self-2 c =
           subst (ArePlaced (slot_at c.insert.new.self)) (sym is)
           (place-comes setting (slot_at old.places) (slot_at c.insert.new.self) settings c.requires.new old.placed
           (λ other. c.in_ok-insert.ensures.ok other ∙ ap (λ p. cond (bytes_eq c.args.user.now other) (Some p) (slot_at old.places other)) place));
-      within = subst (All IsInRange) (sym is) (All-append IsInRange settings (setting ∷ []) old.within (All-cons IsInRange setting [] (c.requires.least, c.requires.most) (All-nil IsInRange)));
+      within = subst (All IsInRange) (sym is)
+          (All-append IsInRange settings (setting ∷ []) old.within (All-cons IsInRange setting [] (c.requires.least, c.requires.most) (All-nil IsInRange)));
       few = subst (λ (l : List Setting). length l ≤ settings_limit) (sym is) (omega (arith, length-append settings (setting ∷ []), c.requires.few));
     }

@@ -2,10 +2,10 @@
 use crate::mail::{
     Seen, assert_replies, assert_shows, listen, run_heard, what_is_seen, write_replies,
 };
-use crate::runs::{Case, Host, assert_run, host_of};
 use notice_desk::{Desk, FileMailbox};
 use pool_engine::RunEnd;
 use pool_text::{OutOfMemory, Text, append_count};
+use run_fixtures::{Case, Host, ends_as, host_of};
 use std::alloc::Global;
 use std::process::Abort;
 use std::test::Fail;
@@ -72,6 +72,12 @@ const CASES: [Case<'static>; 8] = [
         written: b"hits 0\n",
     },
 ];
+
+// A run over such a source and such a sink, which fail at these calls, ends like this, with what was written.
+fn assert_run(rt: &impl Abort, host: Host, case: Case<'_>) -> Result<(), OutOfMemory> {
+    assert!(rt; ends_as(host, case)?);
+    Ok(())
+}
 
 #[test]
 fn each_fault_in_its_turn(rt: HostRuntime) -> Result<(), Fail> {

@@ -1,4 +1,4 @@
-use Rattle.pool_tests.proofs.runs.run_with.Given as goal
+use Rattle.run_fixtures.proofs.runs.run_with.Given as goal
 
 abbrev pub ghosts-run_counted-F-Ledger : goal.ghosts-run_counted-F-Ledger
 ghosts-run_counted-F-Ledger g a = record { name = a.blanks.tops.name; parts = a.blanks.tops.parts }

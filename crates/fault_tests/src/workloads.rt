@@ -1,10 +1,10 @@
 // Workloads, and the words that ask for them.
-use crate::mail::{listen, texts};
-use crate::runs::{Host, host_of, run_over, source_of};
+use crate::mail::listen;
 use notice_desk::{Desk, Notices};
 use pool_engine::*;
 use pool_io::{MemorySource, Source};
 use pool_text::{OutOfMemory, Text};
+use run_fixtures::{Host, host_of, run_over, source_of, texts};
 use std::alloc::Global;
 use std::process::Abort;
 use std::test::Fail;

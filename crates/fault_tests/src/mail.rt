@@ -1,8 +1,8 @@
 // Mailboxes that listen to a run.
-use crate::runs::{Host, calls, host_of, run_over, source_of};
 use notice_desk::{Desk, MemoryMailbox, Notices};
 use pool_engine::*;
 use pool_text::{OutOfMemory, Text};
+use run_fixtures::{Host, calls, host_of, run_over, source_of, texts};
 use std::alloc::Global;
 use std::process::Abort;
 use std::test::Fail;
@@ -150,15 +150,6 @@ fn a_name_that_is_user_and_resource_is_told_once(rt: HostRuntime) -> Result<(), 
     assert_shows(&rt, &seen.m, b"matched j m\n");
     assert_shows(&rt, &seen.u, b"");
     Ok(())
-}
-
-/// The words as texts.
-pub(crate) fn texts(alloc: Global, words: &[&[u8]]) -> Result<Vec<Text>, OutOfMemory> {
-    let mut texts = Vec::new(alloc);
-    for word in words {
-        texts.push(Text::from_bytes(alloc, word)?)?;
-    }
-    Ok(texts)
 }
 
 fn assert_text(rt: &impl Abort, found: &Text, wanted: &[u8]) {

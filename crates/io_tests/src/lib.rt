@@ -1,0 +1,7 @@
+//! Tests of streams and mailboxes.
+#![tactic(auto)]
+
+#[cfg(test)]
+mod boxes;
+#[cfg(test)]
+mod streams;

@@ -25,7 +25,7 @@ use std::alloc::Global;
 use std::convert::AsSlice;
 
 // Tests are counted up to each of these limits in turn, so that a test that leaves many ads costs no more than a narrow one.
-const LIMITS: [usize; 3] = [32, 256, 2048];
+const LIMITS: [usize; 4] = [16, 64, 256, 1024];
 
 /// The places of the ads to look at for a request without ports, in any order. The dock of any other ad with it is decided, and
 /// they are no more than the narrowest test of its requirement leaves.

@@ -1,5 +1,6 @@
 -- That evaluations end: with each reference less are left, and an expression of the world is no larger than the world.
-use Rattle.std.proofs.Common.{◌≡◌, ◌≢◌, ◌≤◌, ◌<◌, ◌+◌, ◌-◌, ◌*◌, ℕ, zero, suc, sub-one, List, [], ◌∷◌, Some, option_map, slice_get, unwrap_or, refl, ap, arith}
+use Rattle.std.proofs.Common.{◌≡◌, ◌≢◌, ◌≤◌, ◌<◌, ◌+◌, ◌-◌, ◌*◌, ℕ, zero, suc}
+use Rattle.std.proofs.Common.{sub-one, List, [], ◌∷◌, Some, option_map, slice_get, unwrap_or, refl, ap, arith}
 use Rattle.ad_tree.specs.Tree.{Tree, size}
 use Rattle.ad_tree.specs.Frames.{Frame, expr_at}
 use Rattle.eval_scope.specs.World.{PlainWorld, ads, expr_of}

@@ -1,5 +1,6 @@
 -- References: circles, attributes that are entered, and values that are kept.
-use Rattle.std.proofs.Common.{◌≡◌, ◌≢◌, ◌≤◌, ◌<◌, ◌+◌, ◌-◌, ℕ, zero, suc, true, false, refl, Option, None, Some, IsSome, cond, ap, sym, ◌∙◌, subst, arith, ◌⊎◌}
+use Rattle.std.proofs.Common.{◌≡◌, ◌≢◌, ◌≤◌, ◌<◌, ◌+◌, ◌-◌, ℕ, zero, suc, true, false}
+use Rattle.std.proofs.Common.{refl, Option, None, Some, IsSome, cond, ap, sym, ◌∙◌, subst, arith, ◌⊎◌}
 use Rattle.std.proofs.Common.{inl, inr, sub-one}
 use Rattle.std.specs.Option.{is_some, option_and_then, option_map}
 use Rattle.pool_text.specs.declared.language.AdPlace.{AdPlace}

@@ -1,5 +1,6 @@
 -- The operators as tables over plain values.
-use Rattle.std.specs.Prelude.{ℕ, ◌+◌, ◌/◌, ◌^◌, Bool, true, false, not, ◌&&◌, ◌==◌, nat_lt, ℤ, pos, negsuc, ◌+ℤ◌, ◌-ℤ◌, ◌*ℤ◌, neg_ℤ, int_lt, int_le, int_div}
+use Rattle.std.specs.Prelude.{ℕ, ◌+◌, ◌/◌, ◌^◌, Bool, true, false, not, ◌&&◌, ◌==◌, nat_lt, ℤ}
+use Rattle.std.specs.Prelude.{pos, negsuc, ◌+ℤ◌, ◌-ℤ◌, ◌*ℤ◌, neg_ℤ, int_lt, int_le, int_div}
 use Rattle.std.specs.Prelude.{int_rem, List, length, Option, Some, None, if◌then◌else◌}
 use Rattle.std.specs.Int.{w64, cast_signed, cast_unsigned, int_bit_and, int_bit_not, int_bit_or, int_bit_xor, int_shl, int_shr}
 use Rattle.std.specs.Ordering.{int_eq, is_eq, is_ge, is_gt, is_le, is_lt, is_ne}

@@ -21,8 +21,9 @@ pub fn is_true_of_literals(op: BinOp, a: &Lit, b: &Lit) -> bool
     }
 }
 
-// Whether `x op y` is true for two Integers.
-fn is_true_of_integers(op: BinOp, x: i64, y: i64) -> bool
+/// Whether `x op y` is true for two Integers.
+#[inline(always)]
+pub fn is_true_of_integers(op: BinOp, x: i64, y: i64) -> bool
     ensures { result ≡ is_true (binary_value op (integer x) (integer y)) }
 {
     match op {

@@ -14,7 +14,7 @@ mod operators;
 mod value;
 mod weighing;
 
-pub use comparison::is_true_of_literals;
+pub use comparison::{is_true_of_integers, is_true_of_literals};
 pub use copying::copy;
 pub use identity::same;
 pub use laws::{

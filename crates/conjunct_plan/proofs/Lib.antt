@@ -1,5 +1,6 @@
 mod ChainLemmas
 mod EnclosedLemmas
+mod PlaceLemmas
 mod PlannedLemmas
 mod TestLemmas
 mod VerdictLemmas

@@ -1,23 +1,25 @@
 // What is decided by literals alone.
-ghost use Rattle.std.specs.Prelude.{◌≡◌, ◌<◌, length, not, pos};
+ghost use Rattle.std.specs.Prelude.{◌≡◌, ◌<◌, length, not, pos, ℕ, List};
 ghost use Rattle.std.specs.Option.{option_map};
 ghost use Rattle.ad_tree.specs.Ad.{ad_frames};
 ghost use Rattle.ad_tree.specs.Enclosing.{enclosed_expr};
+ghost use Rattle.ad_tree.specs.Frames.{Frame};
 ghost use Rattle.ad_tree.specs.Tree.{pack, tree, trees};
 ghost use Rattle.ad_value.specs.Logic.{is_true};
 ghost use Rattle.ad_value.specs.Plain.{plain, plain_of_lit};
-ghost use Rattle.conjunct_plan.specs.Decided.{is_decided, is_met, rules_out, value_with, verdict_by, verdict_of, verdict_on};
+ghost use Rattle.conjunct_plan.specs.Decided.{asked, is_decided, is_met, rules_out, value_with, verdict_by, verdict_of, verdict_on};
 ghost use Rattle.conjunct_plan.specs.Seen.{test_seen};
 ghost use Rattle.conjunct_plan.specs.Tests.{conjuncts, conjuncts_of_all, labels_of};
 
 use crate::Test;
-use crate::enclosed::enclosed;
+use crate::enclosed::{enclosed, enclosed_near};
 use crate::planning::requirement;
 use crate::probe::{Probe, probe_of};
 use crate::verdict::Verdict;
 use ad_tree::{Ad, Expr, Exprs, Ports};
 use ad_value::is_true_of_literals;
 use pool_text::{Lit, Text};
+use std::cell::Cell;
 
 /// Whether the test is decided against by a frame of the other side and the frames that enclose it: the attribute that it
 /// asks for is absent, or its expression is a literal, and with that the test isn't true. No memory is taken.
@@ -90,7 +92,24 @@ pub(crate) fn verdict_by(probe: Probe<'_>, ad: &Ad, frame: u32) -> Verdict
     requires { frame < length (ad_frames ad.now) }
     ensures { result ≡ verdict_by (is_decided (test_seen probe.entry) (ad_frames ad.now) frame) (is_met (test_seen probe.entry) (ad_frames ad.now) frame) }
 {
-    match enclosed(ad, frame, probe.asked().bytes()) {
+    verdict_with(probe, enclosed(ad, frame, probe.asked().bytes()))
+}
+
+/// The same, where the attribute is looked for first at the place `last`, which is then the place where it stands.
+pub(crate) fn verdict_near(probe: Probe<'_>, last: &Cell<u32>, ad: &Ad, frame: u32) -> Verdict
+    requires { frame < length (ad_frames ad.now) }
+    ensures { result ≡ verdict_by (is_decided (test_seen probe.entry) (ad_frames ad.now) frame) (is_met (test_seen probe.entry) (ad_frames ad.now) frame) }
+{
+    let found = enclosed_near(ad, frame, probe.asked().bytes(), last);
+    verdict_with(probe, found)
+}
+
+// What a test says where its attribute has this expression, if any.
+fn verdict_with(probe: Probe<'_>, found: Option<&Expr>) -> Verdict
+    ensures { (other : List Frame) (g : ℕ) → option_map (λ e. tree e.now) found.entry ≡ enclosed_expr other g (asked (test_seen probe.entry))
+        → result ≡ verdict_by (is_decided (test_seen probe.entry) other g) (is_met (test_seen probe.entry) other g) }
+{
+    match found {
         None => decided_by(holds(probe, &Lit::Undefined)),
         Some(Expr::Literal(lit)) => decided_by(holds(probe, lit)),
         Some(_) => Verdict::Open,

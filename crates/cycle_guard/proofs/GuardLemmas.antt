@@ -1,5 +1,6 @@
 -- A guard from attribute to attribute.
-use Rattle.std.proofs.Common.{◌≡◌, ◌≢◌, ◌≤◌, ◌<◌, ◌+◌, ℕ, zero, suc, Bool, true, false, not, ◌&&◌, ◌==◌, refl, List, [], ◌∷◌, ◌++◌, length, drop, get_or, set}
+use Rattle.std.proofs.Common.{◌≡◌, ◌≢◌, ◌≤◌, ◌<◌, ◌+◌, ℕ, zero, suc, Bool, true, false, not}
+use Rattle.std.proofs.Common.{◌&&◌, ◌==◌, refl, List, [], ◌∷◌, ◌++◌, length, drop, get_or, set}
 use Rattle.std.proofs.Common.{position, nat_lt, Option, Some, None, IsSome, cond, ap, sym, ◌∙◌, subst, arith, ◌⊎◌, inl, inr}
 use Rattle.std.specs.Option.{option_or}
 use Rattle.std.specs.List.{position_or_len, refill}

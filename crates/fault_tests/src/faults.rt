@@ -5,7 +5,7 @@ use crate::mail::{
 use notice_desk::{Desk, FileMailbox};
 use pool_engine::RunEnd;
 use pool_text::{OutOfMemory, Text, append_count};
-use run_fixtures::{Case, Host, ends_as, host_of};
+use run_fixtures::{Case, Host, host_of, run};
 use std::alloc::Global;
 use std::process::Abort;
 use std::test::Fail;
@@ -75,7 +75,9 @@ const CASES: [Case<'static>; 8] = [
 
 // A run over such a source and such a sink, which fail at these calls, ends like this, with what was written.
 fn assert_run(rt: &impl Abort, host: Host, case: Case<'_>) -> Result<(), OutOfMemory> {
-    assert!(rt; ends_as(host, case)?);
+    let (end, written) = run(host, case.script, case.most, case.fails.0, case.fails.1)?;
+    assert!(rt; end == case.end);
+    assert_eq!(rt; written.bytes(), case.written);
     Ok(())
 }
 

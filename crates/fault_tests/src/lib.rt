@@ -1,9 +1,7 @@
-//! Tests of runs with faults, of mailboxes that listen to them, and of workloads.
+//! Tests of runs with faults, and of mailboxes that listen to them.
 #![tactic(auto)]
 
 #[cfg(test)]
 mod faults;
 #[cfg(test)]
 mod mail;
-#[cfg(test)]
-mod workloads;

@@ -166,3 +166,29 @@ fn mailboxes_have_names_and_files(rt: HostRuntime) -> Result<(), Fail> {
     assert_text(&rt, &boxes[1].file, b"/z");
     Ok(())
 }
+
+// How a workload of four machines ends over a desk, and what was written.
+fn run_workload(host: Host, desk: &mut Desk) -> Result<(RunEnd, Text), OutOfMemory> {
+    let words = texts(host.alloc, &[b"--mail", b"bob=x", b"--generate", b"4"])?;
+    let mut source = source_of(host.alloc, b"", 9, 1)?;
+    let ran = run_over(host, &words, &mut source, (99, 0), desk);
+    drop(source);
+    ran
+}
+
+#[test]
+fn names_listen_to_a_workload(rt: HostRuntime) -> Result<(), Fail> {
+    let mut desk = Desk::new(rt.alloc());
+    listen(rt.alloc(), &mut desk, b"alice", 0)?;
+    listen(rt.alloc(), &mut desk, b"bob", 0)?;
+    let (end, written) = run_workload(host_of(&rt), &mut desk)?;
+    assert!(rt; end == RunEnd::Done { refused: 0 });
+    assert_text(
+        &rt,
+        &written,
+        b"commands 10\nrefused 0\nhits 1\noffers 1\nbytes 191\n",
+    );
+    assert!(rt; desk.shown(b"alice") == Some(b"".as_slice()));
+    assert!(rt; desk.shown(b"bob") == Some(b"matched j1 m1\n".as_slice()));
+    Ok(())
+}

@@ -4,6 +4,7 @@ ghost use Rattle.std.specs.Option.{option_copied, option_map};
 ghost use Rattle.literal_index.specs.Entries.{holds_with};
 
 use crate::entry::holds;
+use ad_value::is_true_of_integers;
 use conjunct_plan::Test;
 use pool_text::{Lit, OutOfMemory, Text};
 use std::alloc::Global;
@@ -59,7 +60,27 @@ impl Literal {
     }
 
     /// Whether the test is true where its attribute is this literal, if it is one. It takes no memory.
+    #[inline(always)]
     pub fn makes_true(&self, test: &Test) -> Option<bool>
+        ensures { result ≡ option_map (holds_with test.now) self.now }
+    {
+        match (&self.packed, test) {
+            (
+                Packed::Integer(n),
+                Test::Compare {
+                    op,
+                    lit: Lit::Integer(limit),
+                    attr_left: true,
+                    ..
+                },
+            ) => Some(is_true_of_integers(*op, *n, *limit)),
+            _ => self.makes_it_true(test),
+        }
+    }
+
+    // The same for each kind of literal.
+    #[inline(never)]
+    fn makes_it_true(&self, test: &Test) -> Option<bool>
         ensures { result ≡ option_map (holds_with test.now) self.now }
     {
         match &self.packed {

@@ -1,5 +1,6 @@
 -- Posts one after the other.
-use Rattle.std.proofs.Common.{◌≡◌, ◌≢◌, ◌↔◌, ◌≤◌, ◌<◌, ℕ, suc, zero, ◌+◌, Bool, true, false, cond, List, [], ◌∷◌, ◌++◌, filter, length, map, take, Option, None}
+use Rattle.std.proofs.Common.{◌≡◌, ◌≢◌, ◌↔◌, ◌≤◌, ◌<◌, ℕ, suc, zero, ◌+◌, Bool, true}
+use Rattle.std.proofs.Common.{false, cond, List, [], ◌∷◌, ◌++◌, filter, length, map, take, Option, None}
 use Rattle.std.proofs.Common.{Some, IsNone, OnOk, Result, Ok, Err, option_map, bytes_eq, refl, sym, ◌∙◌, ap, subst, inl, inr, arith, add-one, append_assoc}
 use Rattle.std.proofs.Common.{true≢false, slice_get}
 use Rattle.std.specs.List.{AllZip, flat_map}

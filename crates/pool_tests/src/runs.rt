@@ -1,14 +1,16 @@
 // Scripts over sources and sinks in memory that are cut and fail.
 use pool_engine::*;
 use pool_text::{OutOfMemory, Text};
-use run_fixtures::{Case, Host, ends_as, host_of, run, run_alone, source_of, texts};
+use run_fixtures::{Case, Host, host_of, run, run_alone, source_of, texts};
 use std::alloc::Global;
 use std::process::Abort;
 use std::test::Fail;
 
 /// A run over such a source and such a sink, which fail at these calls, ends like this, with what was written.
 pub(crate) fn assert_run(rt: &impl Abort, host: Host, case: Case<'_>) -> Result<(), OutOfMemory> {
-    assert!(rt; ends_as(host, case)?);
+    let (end, written) = run(host, case.script, case.most, case.fails.0, case.fails.1)?;
+    assert!(rt; end == case.end);
+    assert_eq!(rt; written.bytes(), case.written);
     Ok(())
 }
 

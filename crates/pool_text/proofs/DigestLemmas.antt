@@ -1,5 +1,6 @@
 -- Digests of names, word by word.
-use Rattle.std.proofs.Common.{refl, arith, ◌≡◌, ◌≤◌, ◌<◌, ℕ, ◌+◌, ◌-◌, ◌*◌, ◌%◌, ◌^◌, List, [], ◌∷◌, length, take, drop, get_or, cond, nat_lt, ap, sym, ◌∙◌}
+use Rattle.std.proofs.Common.{refl, arith, ◌≡◌, ◌≤◌, ◌<◌, ℕ, ◌+◌, ◌-◌, ◌*◌, ◌%◌, ◌^◌}
+use Rattle.std.proofs.Common.{List, [], ◌∷◌, length, take, drop, get_or, cond, nat_lt, ap, sym, ◌∙◌}
 use Rattle.std.proofs.Common.{inl, inr, map, mod-lt, subst}
 use Rattle.std.specs.Char.{to_ascii_lowercase}
 use Rattle.std.specs.Int.{w32, w64, from_be_bytes}

@@ -3,4 +3,4 @@
 
 mod runs;
 
-pub use runs::{Case, Host, calls, ends_as, host_of, run, run_alone, run_over, source_of, texts};
+pub use runs::{Case, Host, calls, host_of, run, run_alone, run_over, source_of, texts};

@@ -115,12 +115,6 @@ pub struct Case<'a> {
     pub written: &'a [u8],
 }
 
-/// Whether a run over such a source and such a sink, which fail at these calls, ends like this, with what was written.
-pub fn ends_as(host: Host, case: Case<'_>) -> Result<bool, OutOfMemory> {
-    let (end, written) = run(host, case.script, case.most, case.fails.0, case.fails.1)?;
-    Ok(end == case.end && written.bytes() == case.written)
-}
-
 // A blank ledger for each counter of a run.
 struct Blanks {
     tops: Blank,

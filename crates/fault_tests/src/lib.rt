@@ -1,7 +1,5 @@
-//! Tests of runs with faults, and of mailboxes that listen to them.
+//! Tests of runs with faults, and of scripts that are made to be slow.
 #![tactic(auto)]
 
 #[cfg(test)]
 mod faults;
-#[cfg(test)]
-mod mail;
